@@ -1,0 +1,7 @@
+mod Examples
+mod FieldLemmas
+mod GrammarEnd
+mod HeadLemmas
+mod MarkLemmas
+mod ReaderLemmas
+pub mod FeedLemmas

@@ -1,0 +1,15 @@
+//! Laws of the definitions, each the contract of a function that does nothing.
+ghost use Rattle.gw_head.specs.Laws.{RequestEndsAtMark, ReplyEndsAtMark, MarkStays, NoRequestBeginsAnother, NoReplyBeginsAnother};
+
+/// A head that the grammar of `httparse` reads at the front of some bytes ends with the end mark of those bytes.
+pub fn grammar_ends_at_mark()
+    ensures requests { RequestEndsAtMark }
+    ensures replies { ReplyEndsAtMark }
+{}
+
+/// The end mark of some bytes stays where it is, whatever follows them. So no head is the front of another.
+pub fn no_head_begins_another()
+    ensures mark { MarkStays }
+    ensures requests { NoRequestBeginsAnother }
+    ensures replies { NoReplyBeginsAnother }
+{}

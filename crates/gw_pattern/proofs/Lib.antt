@@ -1,0 +1,7 @@
+mod Formed
+mod Parts
+mod Rows
+mod Said
+mod Spelling
+mod Tidy
+mod Walked

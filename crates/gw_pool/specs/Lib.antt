@@ -1,0 +1,11 @@
+pub mod Places
+pub mod State
+pub mod Offer
+pub mod Machine
+pub mod History
+pub mod Shelf
+pub mod Closes
+pub mod Rows
+pub mod Lent
+pub mod Core
+pub mod Tokens

@@ -1,0 +1,18 @@
+// The gateway's top call: it reads the route file, listens, and serves clients over any world.
+#![tactic(auto)]
+
+mod command;
+mod exchange;
+mod lease;
+mod replies;
+mod route_file;
+mod run;
+mod waits;
+mod worker;
+
+pub use route_file::Table;
+pub use run::{Report, run_gateway};
+pub use worker::Worker;
+
+
+// mod tests;

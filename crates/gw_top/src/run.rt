@@ -1,0 +1,177 @@
+// The top call of `gateway serve ROUTES`.
+
+ghost use Rattle.std.specs.Prelude.{◌≡◌, [], length, OnOk, IfOk, slice_index};
+
+use gw_pool::{Closed, Entry, Limits, Solo};
+use gw_wire::{Addr, Listening, Loaded, Wire, World};
+use std::alloc::{AllocError, Global};
+use std::sync::Wait;
+use std::thread::Threads;
+
+use crate::command::{USAGE, serve_name};
+use crate::route_file::{Table, read_addresses};
+use crate::worker::{Worker, work};
+
+/// How many bytes a worker reads at once.
+const BUFFER: usize = 65_536;
+
+/// What a run leaves: its status, and where it came so far the table that it served, the pool's journal and the
+/// workers.
+#[derive(Drop)]
+pub struct Report<W> {
+    /// 0: every worker ended with the listener. 2: the words are no command's form. 3: the route file can't be read.
+    /// 4: the route file is refused. 6: the address can't be listened on. 7: want of memory. 8: an accept failed.
+    pub status: u8,
+    /// The table that was served.
+    pub table: Option<Table>,
+    /// The pool's calls, in their order.
+    pub journal: Vec<Entry>,
+    /// The workers, by their number.
+    pub workers: Vec<Worker<W>>,
+}
+
+// All that a run needs, made before it listens.
+struct Setup<W: Wire> {
+    table: Table,
+    backend: Addr,
+    pool: Solo<W::Conn>,
+    workers: Vec<Worker<W>>,
+    buf: Vec<u8>,
+}
+
+/// Serves the route file that the words `serve ROUTES` name, over this world, until the listener ends or an accept
+/// fails. It prints the line of the status that it answers.
+pub fn run_gateway<R: Threads + Wait + Sync, H: World>(
+    rt: &R,
+    alloc: Global,
+    words: &[String],
+    world: &mut H,
+) -> Report<H::Wire> {
+    let Some(name) = serve_name(words) else {
+        return refuse(alloc, world, 2, &[USAGE]);
+    };
+    let file = match world.read_routes(name) {
+        Loaded::Bytes(file) => file,
+        Loaded::Failed => {
+            return refuse(alloc, world, 3, &[b"cannot read ", name.as_bytes(), b"\n"]);
+        }
+        Loaded::NoMemory => return out_of_memory(alloc, world),
+    };
+    let Some((listen, backend)) = read_addresses(file.as_slice()) else {
+        return refuse(alloc, world, 4, &[b"bad routes: G1\n"]);
+    };
+    match prepare(alloc, listen, backend) {
+        Ok(setup) => listen_and_serve(rt, alloc, world, setup),
+        Err(AllocError) => out_of_memory(alloc, world),
+    }
+}
+
+// Reserves what a run over one backend needs.
+fn prepare<W: Wire>(alloc: Global, listen: Addr, backend: Addr) -> Result<Setup<W>, AllocError> {
+    let mut hosts = Vec::with_capacity(alloc, 1)?;
+    hosts.push(backend)?;
+    let limits = Limits {
+        idle_total: 100,
+        idle_per_host: 2,
+        conns_per_host: 0,
+        idle_ms: 90_000,
+        journal: 1_048_576,
+        passes: 1,
+        per_pass: 1,
+        hosts: 1,
+    };
+    Ok(Setup {
+        table: Table {
+            listen,
+            workers: 1,
+            limits,
+            hosts,
+        },
+        backend,
+        pool: Solo::open(alloc, limits)?,
+        workers: Vec::with_capacity(alloc, 1)?,
+        buf: vec![in alloc; 0; BUFFER]?,
+    })
+}
+
+// Listens, and serves until the worker ends.
+fn listen_and_serve<R: Wait, H: World>(
+    rt: &R,
+    alloc: Global,
+    world: &mut H,
+    setup: Setup<H::Wire>,
+) -> Report<H::Wire> {
+    let Setup {
+        table,
+        backend,
+        mut pool,
+        mut workers,
+        mut buf,
+    } = setup;
+    let wire = match world.listen(&table.listen, table.workers) {
+        Listening::Wires(wires) => first(wires),
+        Listening::Failed => return cannot_listen(alloc, world, &table.listen),
+        Listening::NoMemory => return out_of_memory(alloc, world),
+    };
+    let mut worker = Worker {
+        number: 0,
+        wire,
+        entered: 0,
+        accept_failed: false,
+    };
+    work(rt, alloc, &mut worker, &mut pool, &backend, &mut buf);
+    let Ok(Closed { journal, idle }) = pool.close() else {
+        return out_of_memory(alloc, world);
+    };
+    for conn in idle {
+        worker.wire.close(conn);
+    }
+    let mut status = 0;
+    if worker.accept_failed {
+        status = 8;
+        let _ = world.print(b"accept failed\n");
+    }
+    workers.push(worker).unwrap();
+    Report {
+        status,
+        table: Some(table),
+        journal,
+        workers,
+    }
+}
+
+// The wire of the only worker.
+fn first<W: Wire>(wires: Vec<W>) -> W
+    requires { length wires.items ≡ 1 }
+{
+    let mut wires = wires;
+    match wires.pop() {
+        Some(wire) => wire,
+        None => unreachable!(),
+    }
+}
+
+// The address can't be listened on.
+fn cannot_listen<H: World>(alloc: Global, world: &mut H, addr: &Addr) -> Report<H::Wire> {
+    match format!(in alloc; "cannot listen on {addr}\n") {
+        Ok(line) => refuse(alloc, world, 6, &[line.as_bytes()]),
+        Err(AllocError) => out_of_memory(alloc, world),
+    }
+}
+
+fn out_of_memory<H: World>(alloc: Global, world: &mut H) -> Report<H::Wire> {
+    refuse(alloc, world, 7, &[b"out of memory\n"])
+}
+
+// Prints the parts of a line, and answers this status.
+fn refuse<H: World>(alloc: Global, world: &mut H, status: u8, line: &[&[u8]]) -> Report<H::Wire> {
+    for part in line.iter() {
+        let _ = world.print(part);
+    }
+    Report {
+        status,
+        table: None,
+        journal: Vec::new(alloc),
+        workers: Vec::new(alloc),
+    }
+}

@@ -1,0 +1,97 @@
+// Waits for a link. A wait ends at its millionth tick.
+
+ghost use Rattle.std.specs.Prelude.{◌≡◌, ◌<◌, length, false};
+ghost use Rattle.gw_top.specs.Waits.{HeardStep, TakenStep, SentStep};
+
+use gw_wire::{Read, Wire, Write};
+
+/// How many ticks one wait has.
+const TICKS: u32 = 1_000_000;
+
+/// What a wait for bytes gives.
+#[derive(Clone, Copy, Debug, Drop)]
+pub enum Heard {
+    /// So many bytes, at least one, at the buffer's front.
+    Got(usize),
+    /// The peer sends no more.
+    End,
+    /// The link failed.
+    Failed,
+    /// The wait had its millionth tick.
+    Timeout,
+}
+
+/// What a wait for a link to take bytes gives.
+#[derive(Clone, Copy, Debug, Drop)]
+enum Taken {
+    /// So many bytes, at least one, were taken from the front.
+    Some(usize),
+    /// The link failed.
+    Failed,
+    /// The wait had its millionth tick.
+    Timeout,
+}
+
+/// How a write of many bytes ends.
+#[derive(Clone, Copy, Debug, Drop)]
+pub enum Sent {
+    /// All were taken.
+    All,
+    /// The link failed.
+    Failed,
+    /// One wait had its millionth tick.
+    Timeout,
+}
+
+/// Waits until bytes come, and reads the clock after each tick.
+pub fn hear<W: Wire>(wire: &mut W, conn: &mut W::Conn, buf: &mut [u8]) -> Heard
+    requires room { 0 < length buf.old }
+    requires fresh { (W.wire wire.old).aged ≡ false }
+    ensures { HeardStep (W.wire wire.old) (W.wire wire.new) (W.Conn.link conn.old) (W.Conn.link conn.new) buf.new result }
+{
+    for _tick in 0..TICKS {
+        match wire.read(conn, buf) {
+            Read::Got(n) => return Heard::Got(n),
+            Read::End => return Heard::End,
+            Read::Failed => return Heard::Failed,
+            Read::Tick => {
+                let _ = wire.now();
+            }
+        }
+    }
+    Heard::Timeout
+}
+
+// Waits until a link takes some of the bytes, and reads the clock after each tick.
+fn offer<W: Wire>(wire: &mut W, conn: &mut W::Conn, bytes: &[u8]) -> Taken
+    requires some { 0 < length bytes.now }
+    requires fresh { (W.wire wire.old).aged ≡ false }
+    ensures { TakenStep (W.wire wire.old) (W.wire wire.new) (W.Conn.link conn.old) (W.Conn.link conn.new) bytes.now result }
+{
+    for _tick in 0..TICKS {
+        match wire.write(conn, bytes) {
+            Write::Took(n) => return Taken::Some(n),
+            Write::Failed => return Taken::Failed,
+            Write::Tick => {
+                let _ = wire.now();
+            }
+        }
+    }
+    Taken::Timeout
+}
+
+/// Writes all the bytes, unless the link fails or one wait has its millionth tick.
+pub fn send<W: Wire>(wire: &mut W, conn: &mut W::Conn, bytes: &[u8]) -> Sent
+    requires fresh { (W.wire wire.old).aged ≡ false }
+    ensures { SentStep (W.wire wire.old) (W.wire wire.new) (W.Conn.link conn.old) (W.Conn.link conn.new) bytes.now result }
+{
+    let mut sent = 0;
+    while sent < bytes.len() {
+        match offer(wire, conn, &bytes[sent..]) {
+            Taken::Some(n) => sent += n,
+            Taken::Failed => return Sent::Failed,
+            Taken::Timeout => return Sent::Timeout,
+        }
+    }
+    Sent::All
+}

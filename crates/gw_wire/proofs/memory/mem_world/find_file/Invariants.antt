@@ -1,0 +1,6 @@
+use Rattle.std.proofs.Common.{◌≡◌, drop}
+use Rattle.gw_wire.specs.World.{file_of}
+use Rattle.gw_wire.proofs.memory.mem_world.find_file.Given as goal
+
+abbrev pub invariant-loop-file : goal.invariant-loop-file
+invariant-loop-file l = file_of (drop l.file-index l.files) l.name ≡ file_of l.files l.name

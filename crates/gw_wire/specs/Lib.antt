@@ -1,0 +1,13 @@
+pub mod AcceptStep
+pub mod Acts
+pub mod AddressText
+pub mod Causes
+pub mod DialStep
+pub mod Link
+pub mod Memory
+pub mod ReadStep
+pub mod Script
+pub mod Stretch
+pub mod Wire
+pub mod World
+pub mod WriteStep

@@ -1,0 +1,15 @@
+// The outside of the gateway: clients, backends, a clock, files and printed lines, as traits with contracts,
+// and forms of these traits in memory, which tests run the gateway over.
+#![tactic(auto)]
+
+mod memory;
+mod traits;
+mod values;
+
+pub use memory::script::{AcceptEvent, ConnEvent, DialEvent, Moment, Script};
+pub use memory::{MemConn, MemWire, MemWorld};
+pub use traits::{Accept, Dial, Link, Listening, Loaded, Printed, Read, Wire, World, Write};
+pub use values::{Act, Addr, Bytes, PeerText};
+
+#[cfg(test)]
+mod tests;

@@ -1,0 +1,11 @@
+// The outside in memory: links, a wire and a world that play scripts and tell what happened.
+
+mod log;
+mod mem_conn;
+mod mem_wire;
+mod mem_world;
+pub mod script;
+
+pub use mem_conn::MemConn;
+pub use mem_wire::MemWire;
+pub use mem_world::MemWorld;

@@ -1,0 +1,185 @@
+// The forms in memory, as a test of a crate above uses them.
+
+ghost use Rattle.std.specs.Prelude.{◌≡◌, IfOk, [], ◌∷◌};
+
+use super::*;
+use std::alloc::{AllocError, Global};
+use std::test::Fail;
+
+const NOW: u64 = 784_111_777_000;
+
+fn bytes(alloc: Global, text: &[u8]) -> Result<Bytes, AllocError> {
+    Ok(Bytes::new(text.to_vec(alloc)?))
+}
+
+// A client that sends `hello`, then nothing for a while, and then fails; its writes take 3 bytes and then fail.
+fn client(alloc: Global) -> Result<MemConn, AllocError> {
+    let mut events = Vec::new(alloc);
+    events.push(ConnEvent::Piece(bytes(alloc, b"")?))?;
+    events.push(ConnEvent::Piece(bytes(alloc, b"hello")?))?;
+    events.push(ConnEvent::Tick)?;
+    events.push(ConnEvent::Failed)?;
+    Ok(MemConn::new(7, events, vec![in alloc; 3, 0]?))
+}
+
+fn script(alloc: Global) -> Result<Script, AllocError>
+    ensures { IfOk result (λ s. s.moments.items ≡ record { from = 0; at = 784111777000 } ∷ record { from = 2; at = 784111777500 } ∷ []) }
+{
+    let peer = PeerText::new(b"10.0.0.7");
+    let mut accepts = Vec::new(alloc);
+    accepts.push(AcceptEvent::Tick)?;
+    if let Some(peer) = peer {
+        accepts.push(AcceptEvent::Conn(client(alloc)?, peer))?;
+    }
+    accepts.push(AcceptEvent::Failed)?;
+    Ok(Script {
+        accepts,
+        dials: Vec::new(alloc),
+        moments: vec![in alloc;
+            Moment { from: 0, at: NOW },
+            Moment {
+                from: 2,
+                at: NOW + 500
+            },
+        ]?,
+        acts: 16,
+        bytes: 64,
+    })
+}
+
+#[test]
+fn reads_play_a_script(rt: HostRuntime) -> Result<(), Fail> {
+    let mut wire = MemWire::new(rt.alloc(), script(rt.alloc())?)?;
+    let mut buf = [0; 3];
+    assert!(rt; matches!(wire.accept(), Accept::Tick));
+    let Accept::Conn(mut conn, peer) = wire.accept() else {
+        panic!(rt; "no client");
+    };
+    assert_eq!(rt; peer.as_slice(), b"10.0.0.7".as_slice());
+    assert_eq!(rt; conn.number(), 7);
+    assert_eq!(rt; wire.now(), NOW);
+    assert!(rt; matches!(wire.read(&mut conn, &mut buf), Read::Got(3)));
+    assert_eq!(rt; buf, *b"hel");
+    assert_eq!(rt; wire.now(), NOW + 500);
+    assert!(rt; matches!(wire.read(&mut conn, &mut buf), Read::Got(2)));
+    assert_eq!(rt; buf, *b"lol");
+    let _ = wire.now();
+    assert!(rt; matches!(wire.read(&mut conn, &mut buf), Read::Tick));
+    let _ = wire.now();
+    assert!(rt; matches!(wire.read(&mut conn, &mut buf), Read::Failed));
+    let _ = wire.now();
+    assert!(rt; matches!(wire.read(&mut conn, &mut buf), Read::End));
+    assert!(rt; wire.telling());
+    assert!(rt; told_reads(wire.acts()));
+    Ok(())
+}
+
+fn told_reads(acts: &[Act]) -> bool {
+    match acts {
+        [
+            Act::Accepted(7, _),
+            first,
+            second,
+            Act::ReadFailed(7),
+            Act::End(7),
+        ] => { is_read(first, b"hel") && is_read(second, b"lo") }
+        _ => false,
+    }
+}
+
+#[test]
+fn writes_play_a_script(rt: HostRuntime) -> Result<(), Fail> {
+    let mut wire = MemWire::new(rt.alloc(), script(rt.alloc())?)?;
+    assert!(rt; matches!(wire.accept(), Accept::Tick));
+    let Accept::Conn(mut conn, _peer) = wire.accept() else {
+        panic!(rt; "no client");
+    };
+    assert!(rt; matches!(wire.write(&mut conn, b"world"), Write::Took(3)));
+    let _ = wire.now();
+    assert!(rt; matches!(wire.write(&mut conn, b"ld"), Write::Failed));
+    wire.close(conn);
+    let here = Addr {
+        local: true,
+        ip: [127, 0, 0, 1],
+        port: 80,
+    };
+    assert!(rt; matches!(wire.dial(0, &here), Dial::Failed));
+    assert!(rt; matches!(wire.accept(), Accept::Failed));
+    assert!(rt; matches!(wire.accept(), Accept::Ended));
+    assert!(rt; told_writes(wire.acts()));
+    Ok(())
+}
+
+fn told_writes(acts: &[Act]) -> bool {
+    match acts {
+        [
+            Act::Accepted(7, _),
+            first,
+            Act::WriteFailed(7),
+            Act::Closed(7),
+            Act::DialFailed(0, _),
+            Act::AcceptFailed,
+            Act::Ended,
+        ] => is_written(first, b"wor"),
+        _ => false,
+    }
+}
+
+fn is_read(act: &Act, bytes: &[u8]) -> bool {
+    match act {
+        Act::Read(7, read) => read.as_slice() == bytes,
+        _ => false,
+    }
+}
+
+fn is_written(act: &Act, bytes: &[u8]) -> bool {
+    match act {
+        Act::Wrote(7, wrote) => wrote.as_slice() == bytes,
+        _ => false,
+    }
+}
+
+#[test]
+fn a_world_of_one_file(rt: HostRuntime) -> Result<(), Fail> {
+    let alloc = rt.alloc();
+    let mut files = Vec::new(alloc);
+    files.push((bytes(alloc, b"routes.json")?, bytes(alloc, b"first")?))?;
+    files.push((bytes(alloc, b"routes.json")?, bytes(alloc, b"second")?))?;
+    let none: Option<Vec<MemWire>> = None;
+    let mut world = MemWorld::new(alloc, files, none, true)?;
+    let Loaded::Bytes(file) = world.read_routes("routes.json") else {
+        panic!(rt; "no file");
+    };
+    assert_eq!(rt; file.as_slice(), b"first".as_slice());
+    assert!(rt; matches!(world.read_routes("other.json"), Loaded::Failed));
+    assert!(rt; matches!(world.print(b"one "), Printed::Done));
+    assert!(rt; matches!(world.print(b"two"), Printed::Done));
+    assert_eq!(rt; world.printed(), b"one two".as_slice());
+    Ok(())
+}
+
+#[test]
+fn texts(rt: HostRuntime) -> Result<(), Fail> {
+    assert!(rt; PeerText::new(b"255.255.255.255").is_some());
+    assert!(rt; PeerText::new(b"255.255.255.2555").is_none());
+    let local = Addr {
+        local: true,
+        ip: [127, 0, 0, 1],
+        port: 80,
+    };
+    let far = Addr {
+        local: false,
+        ip: [10, 0, 200, 7],
+        port: 65_535,
+    };
+    assert_eq!(rt;
+        format!(in rt.alloc(); "{local} {far}")?.as_str(),
+        "localhost:80 10.0.200.7:65535"
+    );
+    assert_eq!(rt; 9u64.number(), 9);
+    assert_eq!(rt;
+        bytes(rt.alloc(), b"ab")?.into_vec().as_slice(),
+        b"ab".as_slice()
+    );
+    Ok(())
+}
