@@ -1,2 +1,4 @@
 pub mod Command
+pub mod Leased
+pub mod Status
 pub mod Waits

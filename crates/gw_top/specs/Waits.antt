@@ -103,3 +103,9 @@ pub record Sending (old new : WireView) (from to : LinkView) (front : List ℕ) 
   pub link : LinkLater from to
   pub fresh : new.aged ≡ false
   pub log : Told old.log new.log (Writes from.number front)
+
+-- calls on one link: no count falls, the link keeps its number, and the clock was read after each wait
+pub record GoesOn (old new : WireView) (from to : LinkView) : Type 0 where
+  pub later : Later old new
+  pub link : LinkLater from to
+  pub fresh : new.aged ≡ false

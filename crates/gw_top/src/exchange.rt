@@ -1,15 +1,16 @@
 // One client connection, which carries one request.
 
 ghost use Rattle.std.specs.Prelude.{◌≡◌, ◌<◌, ◌≤◌, [], length, false, take, min};
-
-use gw_head::{Fed, HeadReader, ReplyHead, RequestHead, Step};
-use gw_pool::Leases;
-use gw_wire::{Addr, Wire};
-use std::alloc::Global;
+ghost use Rattle.gw_top.specs.Leased.{KeepsOn};
+ghost use Rattle.gw_top.specs.Waits.{GoesOn};
 
 use crate::lease::{Leased, lease};
 use crate::replies;
 use crate::waits::{Heard, Sent, hear, send};
+use gw_head::{Fed, HeadReader, ReplyHead, RequestHead, Step};
+use gw_pool::Leases;
+use gw_wire::{Addr, Wire};
+use std::alloc::Global;
 
 /// A head has fewer bytes than so many pieces, or ends with the last of them.
 const PIECES: u32 = 65_536;
@@ -55,6 +56,8 @@ pub fn serve<W: Wire, L: Leases<W::Conn>>(
     requires host { 0 < (L.lent leases.old).limits.hosts }
     requires one { 0 < (L.lent leases.old).limits.per_pass }
     requires none { (L.lent leases.old).out ≡ [] }
+    ensures keeps { KeepsOn (W.wire wire.old) (W.wire wire.new) (L.lent leases.old) (L.lent leases.new) }
+    ensures none { (L.lent leases.new).out ≡ [] }
 {
     let mut client = client;
     let served = match hear_request(alloc, wire, &mut client, buf) {
@@ -82,6 +85,7 @@ fn hear_request<W: Wire>(
 ) -> Request
     requires fresh { (W.wire wire.old).aged ≡ false }
     requires room { 0 < length buf.old }
+    ensures goes { GoesOn (W.wire wire.old) (W.wire wire.new) (W.Conn.link client.old) (W.Conn.link client.new) }
 {
     let Ok(mut reader) = HeadReader::new(alloc) else {
         return Request::NoMemory;
@@ -114,6 +118,8 @@ fn exchange<W: Wire, L: Leases<W::Conn>>(
     requires host { 0 < (L.lent leases.old).limits.hosts }
     requires one { 0 < (L.lent leases.old).limits.per_pass }
     requires none { (L.lent leases.old).out ≡ [] }
+    ensures keeps { KeepsOn (W.wire wire.old) (W.wire wire.new) (L.lent leases.old) (L.lent leases.new) }
+    ensures none { (L.lent leases.new).out ≡ [] }
 {
     match lease(wire, leases, 0, backend) {
         Leased::Lease(lease) => {
@@ -139,6 +145,7 @@ fn attempt<W: Wire>(
 ) -> Answer
     requires fresh { (W.wire wire.old).aged ≡ false }
     requires room { 0 < length buf.old }
+    ensures goes { GoesOn (W.wire wire.old) (W.wire wire.new) (W.Conn.link conn.old) (W.Conn.link conn.new) }
 {
     match send(wire, conn, head) {
         Sent::All => hear_reply(alloc, wire, conn, buf),
@@ -148,14 +155,10 @@ fn attempt<W: Wire>(
 }
 
 // Reads the head of a backend's reply, and then its body.
-fn hear_reply<W: Wire>(
-    alloc: Global,
-    wire: &mut W,
-    conn: &mut W::Conn,
-    buf: &mut [u8],
-) -> Answer
+fn hear_reply<W: Wire>(alloc: Global, wire: &mut W, conn: &mut W::Conn, buf: &mut [u8]) -> Answer
     requires fresh { (W.wire wire.old).aged ≡ false }
     requires room { 0 < length buf.old }
+    ensures goes { GoesOn (W.wire wire.old) (W.wire wire.new) (W.Conn.link conn.old) (W.Conn.link conn.new) }
 {
     let Ok(mut reader) = HeadReader::new(alloc) else {
         return Answer::NoMemory;
@@ -191,6 +194,7 @@ fn hear_body<W: Wire>(
     requires room { 0 < length buf.old }
     requires ordered { from ≤ to }
     requires within { to ≤ length buf.old }
+    ensures goes { GoesOn (W.wire wire.old) (W.wire wire.new) (W.Conn.link conn.old) (W.Conn.link conn.new) }
 {
     let ReplyHead {
         bytes,
@@ -235,6 +239,7 @@ fn at_most(piece: &[u8], left: u64) -> &[u8]
 // Writes an answer to the client.
 fn say<W: Wire>(wire: &mut W, client: &mut W::Conn, answer: Answer) -> Served
     requires fresh { (W.wire wire.old).aged ≡ false }
+    ensures goes { GoesOn (W.wire wire.old) (W.wire wire.new) (W.Conn.link client.old) (W.Conn.link client.new) }
 {
     match answer {
         Answer::Passed(reply) => {

@@ -1,6 +1,9 @@
 // A connection to a backend, lent by the pool: an idle one, or one that is dialed.
 
-ghost use Rattle.std.specs.Prelude.{◌≡◌, ◌<◌, [], false};
+ghost use Rattle.std.specs.Prelude.{◌≡◌, ◌<◌, [], ◌∷◌, false};
+ghost use Rattle.gw_wire.specs.Wire.{Later};
+ghost use Rattle.gw_pool.specs.Lent.{ticket_of};
+ghost use Rattle.gw_top.specs.Leased.{KeepsOn, OutOf, OutOfWant};
 
 use gw_pool::{Ask, Lease, Leases, Put, Start, Ticket, Want};
 use gw_wire::{Addr, Dial, Wire};
@@ -38,6 +41,8 @@ pub fn lease<W: Wire, L: Leases<W::Conn>>(
     requires host { host < (L.lent leases.old).limits.hosts }
     requires one { 0 < (L.lent leases.old).limits.per_pass }
     requires none { (L.lent leases.old).out ≡ [] }
+    ensures keeps { KeepsOn (W.wire wire.old) (W.wire wire.new) (L.lent leases.old) (L.lent leases.new) }
+    ensures out { OutOf W.Conn.link (L.lent leases.new) result }
 {
     match want(wire, leases, host) {
         Wanted::Ticket(ticket) => ask(wire, leases, ticket, addr),
@@ -48,9 +53,12 @@ pub fn lease<W: Wire, L: Leases<W::Conn>>(
 
 // Makes a want. Connections that the pool hands out because they were idle too long are closed.
 fn want<W: Wire, L: Leases<W::Conn>>(wire: &mut W, leases: &mut L, host: u32) -> Wanted
+    requires fresh { (W.wire wire.old).aged ≡ false }
     requires host { host < (L.lent leases.old).limits.hosts }
     requires one { 0 < (L.lent leases.old).limits.per_pass }
     requires none { (L.lent leases.old).out ≡ [] }
+    ensures keeps { KeepsOn (W.wire wire.old) (W.wire wire.new) (L.lent leases.old) (L.lent leases.new) }
+    ensures out { OutOfWant (L.lent leases.new) result }
 {
     for _try in 0..TRIES {
         let now = wire.now();
@@ -69,19 +77,24 @@ fn ask<W: Wire, L: Leases<W::Conn>>(
     leases: &mut L,
     ticket: Ticket,
     addr: &Addr,
-) -> Leased<W::Conn> {
-    let mut ticket = ticket;
+) -> Leased<W::Conn>
+    requires fresh { (W.wire wire.old).aged ≡ false }
+    requires out { (L.lent leases.old).out ≡ ticket_of ticket.want ∷ [] }
+    ensures keeps { KeepsOn (W.wire wire.old) (W.wire wire.new) (L.lent leases.old) (L.lent leases.new) }
+    ensures out { OutOf W.Conn.link (L.lent leases.new) result }
+{
+    let mut held = ticket;
     for _try in 0..TRIES {
-        match leases.ask(ticket) {
+        match leases.ask(held) {
             Ask::Taken(lease) => return Leased::Lease(lease),
             Ask::Granted(back) => return dial(wire, leases, back, addr),
-            Ask::NotYet(back) => ticket = back,
+            Ask::NotYet(back) => held = back,
             Ask::Failed => return Leased::Unreachable,
         }
         wire.rest();
         let _ = wire.now();
     }
-    cancel(wire, leases, ticket);
+    cancel(wire, leases, held);
     Leased::Late
 }
 
@@ -91,7 +104,12 @@ fn dial<W: Wire, L: Leases<W::Conn>>(
     leases: &mut L,
     ticket: Ticket,
     addr: &Addr,
-) -> Leased<W::Conn> {
+) -> Leased<W::Conn>
+    requires fresh { (W.wire wire.old).aged ≡ false }
+    requires out { (L.lent leases.old).out ≡ ticket_of ticket.want ∷ [] }
+    ensures keeps { KeepsOn (W.wire wire.old) (W.wire wire.new) (L.lent leases.old) (L.lent leases.new) }
+    ensures out { OutOf W.Conn.link (L.lent leases.new) result }
+{
     match leases.start(&ticket) {
         Start::Go(token) => match wire.dial(ticket.host, addr) {
             Dial::Conn(conn) => {
@@ -118,14 +136,22 @@ fn dial<W: Wire, L: Leases<W::Conn>>(
 }
 
 // Gives a want up.
-fn cancel<W: Wire, L: Leases<W::Conn>>(wire: &mut W, leases: &mut L, ticket: Ticket) {
+fn cancel<W: Wire, L: Leases<W::Conn>>(wire: &mut W, leases: &mut L, ticket: Ticket)
+    requires fresh { (W.wire wire.old).aged ≡ false }
+    requires out { (L.lent leases.old).out ≡ ticket_of ticket.want ∷ [] }
+    ensures keeps { KeepsOn (W.wire wire.old) (W.wire wire.new) (L.lent leases.old) (L.lent leases.new) }
+    ensures out { (L.lent leases.new).out ≡ [] }
+{
     let now = wire.now();
     let put = leases.cancel(ticket, now);
     close(wire, put);
 }
 
 // Closes the connection that a call of the pool hands out, if it does.
-fn close<W: Wire>(wire: &mut W, put: Put<W::Conn>) {
+fn close<W: Wire>(wire: &mut W, put: Put<W::Conn>)
+    ensures later { Later (W.wire wire.old) (W.wire wire.new) }
+    ensures aged { (W.wire wire.new).aged ≡ (W.wire wire.old).aged }
+{
     let Put { close } = put;
     if let Some(conn) = close {
         wire.close(conn);

@@ -14,5 +14,5 @@ pub use route_file::Table;
 pub use run::{Report, run_gateway};
 pub use worker::Worker;
 
-
-// mod tests;
+#[cfg(test)]
+mod tests;

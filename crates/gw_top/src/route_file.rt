@@ -68,20 +68,16 @@ fn read_number(text: &[u8], most: u32) -> Option<(u32, &[u8])>
     requires { most < 2 ^ 16 }
     ensures { IfSome result (λ read. read.0 ≤ most) }
 {
+    let digits = text.iter().take_while(|byte| byte.is_ascii_digit()).count();
+    if digits == 0 || digits > 1 && text[0] == b'0' {
+        return None;
+    }
     let mut number = 0;
-    let mut digits = 0;
-    for byte in text.iter() {
-        if !byte.is_ascii_digit() {
-            break;
-        }
-        number = number * 10 + u32::from(*byte - b'0');
-        if number > most || digits > 0 && text[0] == b'0' {
+    for byte in text[..digits].iter() {
+        number = number * 10 + u32::from(byte.saturating_sub(b'0'));
+        if number > most {
             return None;
         }
-        digits += 1;
-    }
-    if digits == 0 {
-        return None;
     }
     Some((number, &text[digits..]))
 }

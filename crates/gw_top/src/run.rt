@@ -1,16 +1,19 @@
 // The top call of `gateway serve ROUTES`.
 
-ghost use Rattle.std.specs.Prelude.{◌≡◌, [], length, OnOk, IfOk, slice_index};
+ghost use Rattle.std.specs.Prelude.{◌≡◌, ◌<◌, [], ◌∷◌, length, false, IfOk, vec_capacity};
+ghost use Rattle.gw_wire.specs.Causes.{Rose};
+ghost use Rattle.gw_wire.specs.World.{WorldLater};
+ghost use Rattle.gw_top.specs.Command.{IsServe};
+ghost use Rattle.gw_top.specs.Status.{StatusCauses, Refuses, RefusesOr7, IsReady, ServeCauses};
 
+use crate::command::{USAGE, serve_name};
+use crate::route_file::{Table, read_addresses};
+use crate::worker::{Worker, work};
 use gw_pool::{Closed, Entry, Limits, Solo};
 use gw_wire::{Addr, Listening, Loaded, Wire, World};
 use std::alloc::{AllocError, Global};
 use std::sync::Wait;
 use std::thread::Threads;
-
-use crate::command::{USAGE, serve_name};
-use crate::route_file::{Table, read_addresses};
-use crate::worker::{Worker, work};
 
 /// How many bytes a worker reads at once.
 const BUFFER: usize = 65_536;
@@ -46,7 +49,9 @@ pub fn run_gateway<R: Threads + Wait + Sync, H: World>(
     alloc: Global,
     words: &[String],
     world: &mut H,
-) -> Report<H::Wire> {
+) -> Report<H::Wire>
+    ensures causes { StatusCauses H.Wire.wire words.now (H.world world.old) (H.world world.new) result }
+{
     let Some(name) = serve_name(words) else {
         return refuse(alloc, world, 2, &[USAGE]);
     };
@@ -67,7 +72,9 @@ pub fn run_gateway<R: Threads + Wait + Sync, H: World>(
 }
 
 // Reserves what a run over one backend needs.
-fn prepare<W: Wire>(alloc: Global, listen: Addr, backend: Addr) -> Result<Setup<W>, AllocError> {
+fn prepare<W: Wire>(alloc: Global, listen: Addr, backend: Addr) -> Result<Setup<W>, AllocError>
+    ensures { IfOk result (λ setup. IsReady setup) }
+{
     let mut hosts = Vec::with_capacity(alloc, 1)?;
     hosts.push(backend)?;
     let limits = Limits {
@@ -100,7 +107,10 @@ fn listen_and_serve<R: Wait, H: World>(
     alloc: Global,
     world: &mut H,
     setup: Setup<H::Wire>,
-) -> Report<H::Wire> {
+) -> Report<H::Wire>
+    requires { IsReady setup }
+    ensures causes { ServeCauses H.Wire.wire (H.world world.old) (H.world world.new) result }
+{
     let Setup {
         table,
         backend,
@@ -143,6 +153,7 @@ fn listen_and_serve<R: Wait, H: World>(
 // The wire of the only worker.
 fn first<W: Wire>(wires: Vec<W>) -> W
     requires { length wires.items ≡ 1 }
+    ensures { wires.items ≡ result ∷ [] }
 {
     let mut wires = wires;
     match wires.pop() {
@@ -152,19 +163,28 @@ fn first<W: Wire>(wires: Vec<W>) -> W
 }
 
 // The address can't be listened on.
-fn cannot_listen<H: World>(alloc: Global, world: &mut H, addr: &Addr) -> Report<H::Wire> {
+fn cannot_listen<H: World>(alloc: Global, world: &mut H, addr: &Addr) -> Report<H::Wire>
+    ensures later { WorldLater (H.world world.old) (H.world world.new) }
+    ensures refuses { RefusesOr7 6 result }
+{
     match format!(in alloc; "cannot listen on {addr}\n") {
         Ok(line) => refuse(alloc, world, 6, &[line.as_bytes()]),
         Err(AllocError) => out_of_memory(alloc, world),
     }
 }
 
-fn out_of_memory<H: World>(alloc: Global, world: &mut H) -> Report<H::Wire> {
+fn out_of_memory<H: World>(alloc: Global, world: &mut H) -> Report<H::Wire>
+    ensures later { WorldLater (H.world world.old) (H.world world.new) }
+    ensures refuses { Refuses 7 result }
+{
     refuse(alloc, world, 7, &[b"out of memory\n"])
 }
 
 // Prints the parts of a line, and answers this status.
-fn refuse<H: World>(alloc: Global, world: &mut H, status: u8, line: &[&[u8]]) -> Report<H::Wire> {
+fn refuse<H: World>(alloc: Global, world: &mut H, status: u8, line: &[&[u8]]) -> Report<H::Wire>
+    ensures later { WorldLater (H.world world.old) (H.world world.new) }
+    ensures refuses { Refuses status result }
+{
     for part in line.iter() {
         let _ = world.print(part);
     }

@@ -1,13 +1,14 @@
 // A worker accepts one client after another and serves each to its end.
 
-ghost use Rattle.std.specs.Prelude.{◌≡◌, ◌<◌, [], length, false};
+ghost use Rattle.std.specs.Prelude.{◌≡◌, ◌<◌, [], length, true, false};
+ghost use Rattle.gw_wire.specs.Causes.{Rose};
+ghost use Rattle.gw_top.specs.Leased.{KeepsOn};
 
+use crate::exchange::serve;
 use gw_pool::Leases;
 use gw_wire::{Accept, Addr, Wire};
 use std::alloc::Global;
 use std::sync::Wait;
-
-use crate::exchange::serve;
 
 /// A worker, as its run leaves it.
 #[derive(Drop)]
@@ -36,6 +37,12 @@ pub fn work<R: Wait, W: Wire, L: Leases<W::Conn>>(
     requires host { 0 < (L.lent leases.old).limits.hosts }
     requires one { 0 < (L.lent leases.old).limits.per_pass }
     requires none { (L.lent leases.old).out ≡ [] }
+    requires serving { worker.old.accept_failed ≡ false }
+    ensures keeps { KeepsOn (W.wire worker.old.wire) (W.wire worker.new.wire) (L.lent leases.old) (L.lent leases.new) }
+    ensures none { (L.lent leases.new).out ≡ [] }
+    ensures number { worker.new.number ≡ worker.old.number }
+    ensures failed { worker.new.accept_failed ≡ true
+        → Rose (W.wire worker.old.wire).accept_faults (W.wire worker.new.wire).accept_faults }
 {
     for _client in rt.forever() {
         match worker.wire.accept() {

@@ -10,11 +10,11 @@ given_alone : {R : Type 0} (world : WorldView) (wires : List (TcpWire R)) → ((
     → All (λ wire. IsAlone (tcp_view wire)) wires → All (λ wire. IsGiven world (tcp_view wire)) wires
 given_alone {R} world wires none alone =
     All-weaker (λ wire. IsAlone (tcp_view {R = R} wire)) (λ wire. IsGiven world (tcp_view {R = R} wire))
-        (λ wire is. record { fresh = is.fresh; groups = λ a. rw (none a) (is.groups a) }) wires alone
+    (λ wire is. record { fresh = is.fresh; groups = λ a. rw (none a) (is.groups a) }) wires alone
 
 pub returns-in-Ok : goal.returns-in-Ok
 returns-in-Ok g c = record {
-    later = search rules;
-    cause = (c.in-Ok.ensures.count, given_alone _ c.in-Ok.wires.items (λ a. refl) c.in-Ok.ensures.fresh, tt);
-    printed = tt
-  }
+  later = search rules;
+  cause = (c.in-Ok.ensures.count, given_alone _ c.in-Ok.wires.items (λ a. refl) c.in-Ok.ensures.fresh, tt);
+  printed = tt;
+}

@@ -1,0 +1,5 @@
+use Rattle.gw_top.specs.Waits.{GoesOn}
+use Rattle.gw_top.proofs.exchange.hear_request.Given as goal
+
+abbrev pub invariant-loop-piece : goal.invariant-loop-piece
+invariant-loop-piece g l = GoesOn (g.W.Wire.wire l.initial.wire) (g.W.Wire.wire l.wire) (g.W.Conn.Link.link l.initial.client) (g.W.Conn.Link.link l.client)
