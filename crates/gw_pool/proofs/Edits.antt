@@ -1,7 +1,6 @@
 -- Taking out the first row that passes a test, at the place where it stands.
-use Rattle.std.proofs.Common.{◌≡◌, ℕ, ◌+◌, ◌<◌, Bool, true, false, not, List, [], ◌∷◌, ◌++◌, length, take, drop, Option, Some, None, map, refl, ap, sym, ◌∙◌, arith, nat_lt, option_map, slice_index_or, sum_by, cond, subst, suc, ltb-true, ltb-false, ◌≤◌}
-use Rattle.std.specs.List.{position_or_len, prefix_len, find, position, remove}
-use Rattle.std.proofs.lemmas.Grind.{common_steps}
+use Rattle.std.proofs.Common.{◌≡◌, ℕ, ◌+◌, ◌<◌, Bool, true, false, not, List, [], ◌∷◌, length, Some, None, refl, ap, sym, ◌∙◌, arith, nat_lt, slice_index_or, cond, suc, ltb-true, ltb-false, ◌≤◌}
+use Rattle.std.specs.List.{position_or_len, find, position, remove}
 use Rattle.std.proofs.lemmas.Option.{slice_get-get_or}
 use Rattle.std.proofs.lemmas.List.Folds.{find_at}
 use Rattle.std.proofs.lemmas.List.Quantifiers.{position-Some}

@@ -1,5 +1,5 @@
 -- An entry is made: the pool's rows and journal hold together as before.
-use Rattle.std.proofs.Common.{◌≡◌, ℕ, ◌+◌, ◌<◌, ◌≤◌, List, [], ◌∷◌, ◌++◌, length, vec_capacity, Vec, Option, Some, None, refl, ap, sym, ◌∙◌, arith, length-append}
+use Rattle.std.proofs.Common.{◌≡◌, ℕ, ◌+◌, ◌≤◌, List, [], ◌∷◌, ◌++◌, length, vec_capacity, Vec, Some, ap, ◌∙◌, arith, length-append}
 use Rattle.std.specs.List.{sum_by}
 use Rattle.std.proofs.lemmas.List.Sums.{sum_by-cons}
 use Rattle.gw_pool.specs.declared.rows.Place.{Place}
@@ -9,14 +9,12 @@ use Rattle.gw_pool.specs.declared.rows.ConnRow.{ConnRow}
 use Rattle.gw_pool.specs.Places.{want_room, conn_room}
 use Rattle.gw_pool.proofs.Room.{some_room}
 use Rattle.std.specs.declared.alloc.Global.{Global}
-use Rattle.gw_pool.specs.declared.limits.Limits.{Limits}
 use Rattle.gw_pool.specs.declared.entry.Entry.{Entry}
 use Rattle.gw_pool.specs.declared.entry.Call.{Call}
 use Rattle.gw_pool.specs.declared.entry.Reply.{Reply}
 use Rattle.gw_pool.specs.declared.machine.Rows.{Rows}
-use Rattle.gw_pool.specs.State.{State}
 use Rattle.gw_pool.specs.Machine.{Outcome, step}
-use Rattle.gw_pool.specs.History.{IsLegal, after, room}
+use Rattle.gw_pool.specs.History.{after, room}
 use Rattle.gw_pool.specs.Rows.{state_of, Keeps, HasRoom}
 use Rattle.gw_pool.specs.Core.{CoreView, Holds, Enters, entry_of}
 use Rattle.gw_pool.proofs.Histories.{made}

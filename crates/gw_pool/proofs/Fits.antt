@@ -1,10 +1,10 @@
 -- Which calls fit, where the rows that they name are found.
-use Rattle.std.proofs.Common.{◌≡◌, ℕ, ◌<◌, ◌==◌, ◌&&◌, Bool, true, false, length, Option, Some, None, refl, ap, sym, ◌∙◌, arith, nat_lt, lt-ltb, eq-eqb, eqb-true}
+use Rattle.std.proofs.Common.{◌≡◌, ℕ, ◌<◌, ◌==◌, ◌&&◌, Bool, true, false, length, Some, None, refl, nat_lt, lt-ltb, eq-eqb}
 use Rattle.std.specs.List.{find}
 use Rattle.gw_pool.specs.declared.limits.Limits.{Limits}
 use Rattle.gw_pool.specs.declared.entry.Call.TheVariants as call
 use Rattle.gw_pool.specs.declared.rows.Place.{Place}
-use Rattle.gw_pool.specs.declared.rows.Place.TheVariants.{Out, Idle}
+use Rattle.gw_pool.specs.declared.rows.Place.TheVariants.{Out}
 use Rattle.gw_pool.specs.declared.rows.WantRow.{WantRow}
 use Rattle.gw_pool.specs.declared.rows.ConnRow.{ConnRow}
 use Rattle.gw_pool.specs.declared.rows.DialRow.{DialRow}

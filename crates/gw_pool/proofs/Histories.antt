@@ -1,5 +1,5 @@
 -- A history that grows by one entry.
-use Rattle.std.proofs.Common.{◌≡◌, ℕ, List, [], ◌∷◌, ◌++◌, Option, Some, None, refl, ap, sym, ◌∙◌}
+use Rattle.std.proofs.Common.{◌≡◌, ℕ, List, [], ◌∷◌, ◌++◌, Some, refl, ap, sym, ◌∙◌}
 use Rattle.gw_pool.specs.declared.limits.Limits.{Limits}
 use Rattle.gw_pool.specs.declared.entry.Entry.{Entry}
 use Rattle.gw_pool.specs.declared.entry.Call.{Call}
@@ -27,3 +27,8 @@ made limits h caller asked outcome l f = record {
   legal = legal_from_push limits empty h (entry_of caller asked outcome.reply) l (ap reply_of f);
   state = sym (after_from_push limits empty h (entry_of caller asked outcome.reply) ∙ ap (λ o. state_of (after_from limits empty h) o) f);
 }
+
+-- the state after an entry is that of its step
+pub entered_state : (limits : Limits) (h : List Entry) (caller : ℕ) (asked : Call) (outcome : Outcome) → step limits (after limits h) caller asked ≡ Some outcome → after limits (h ++ entry_of caller asked outcome.reply ∷ []) ≡ outcome.state
+unfolding after moved
+entered_state limits h caller asked outcome f = after_from_push limits empty h (entry_of caller asked outcome.reply) ∙ ap (λ o. state_of (after_from limits empty h) o) f

@@ -7,4 +7,11 @@ pub mod Fits
 pub mod Entries
 pub mod Standings
 pub mod TokenEdits
+pub mod Weights
+pub mod Owns
+pub mod Inverts
+pub mod Ties
+pub mod TieCalls
+pub mod TieWant
+pub mod SoloCalls
 mod WorkedRows

@@ -1,17 +1,16 @@
 -- What a step does to the room that the rows need, and to the next numbers.
-use Rattle.std.proofs.Common.{◌≡◌, ℕ, suc, ◌+◌, ◌*◌, ◌<◌, ◌≤◌, ◌==◌, ◌&&◌, ◌⊎◌, inl, inr, Bool, true, false, List, [], ◌∷◌, ◌++◌, length, Option, Some, None, refl, ap, sym, ◌∙◌, arith, cond, length-append, nat_lt, eq-eqb}
-use Rattle.std.specs.List.{find, sum_by, filter, fold, count_by}
+use Rattle.std.proofs.Common.{◌≡◌, ℕ, ◌+◌, ◌≤◌, ◌==◌, ◌&&◌, ◌⊎◌, inl, inr, Bool, true, false, List, [], ◌∷◌, length, Option, Some, None, refl, sym, ◌∙◌, arith, cond, nat_lt, eq-eqb}
+use Rattle.std.specs.List.{find, sum_by, filter, fold}
 use Rattle.std.proofs.lemmas.List.Sums.{sum_by-cons, sum_by_push}
 use Rattle.gw_pool.specs.declared.limits.Limits.{Limits}
 use Rattle.gw_pool.specs.declared.rows.Stage.{Stage}
 use Rattle.gw_pool.specs.declared.rows.Stage.TheVariants.{Waiting, Granted, Dialing}
 use Rattle.gw_pool.specs.declared.rows.WantRow.{WantRow}
-use Rattle.gw_pool.specs.declared.rows.ConnRow.{ConnRow}
-use Rattle.gw_pool.specs.declared.rows.DialRow.{DialRow}
-use Rattle.gw_pool.specs.Places.{want_room, conn_room, is_waiting}
-use Rattle.gw_pool.specs.State.{State, remove_first, earlier, least_want, least_waiting, wants_host, waits_for, waits_as, wants_as, is_free}
+use Rattle.gw_pool.specs.Places.{want_room, is_waiting}
+use Rattle.gw_pool.specs.State.{State, remove_first, earlier, least_waiting, waits_for, waits_as, is_free}
 use Rattle.gw_pool.specs.Offer.{grant_to, grant}
 use Rattle.gw_pool.specs.History.{room}
+pub use Rattle.gw_pool.specs.Ties.{Among}
 
 -- a sum loses the term of the row that is found and taken out
 removed_step : {X : Type 0} (f : X → ℕ) (b : Bool) (p : X → Bool) (x r : X) (xs : List X) → cond b (Some x) (find p xs) ≡ Some r → (find p xs ≡ Some r → sum_by f (remove_first p xs) + f r ≡ sum_by f xs) → sum_by f (cond b xs (x ∷ remove_first p xs)) + f r ≡ sum_by f (x ∷ xs)
@@ -37,11 +36,6 @@ left_sum f false p x xs h = omega (arith, sum_by-cons f x xs, sum_by-cons f x (r
 pub sum_left : {X : Type 0} (f : X → ℕ) (p : X → Bool) (xs : List X) → sum_by f (remove_first p xs) ≤ sum_by f xs
 sum_left f p [] = omega arith
 sum_left f p (x ∷ xs) = left_sum f (p x) p x xs (sum_left f p xs)
-
--- the rows among which one is
-abbrev pub Among : {X : Type 0} → X → List X → Type 0
-Among r [] = ⊥
-Among r (x ∷ xs) = (x ≡ r) ⊎ Among r xs
 
 -- a sum loses at least what each row that passes adds, where such a row is there
 lost_step : {X : Type 0} (f : X → ℕ) (p : X → Bool) (low : ℕ) (x : X) (xs : List X) (b : Bool) → p x ≡ b → ((y : X) → p y ≡ true → low ≤ f y) → (b ≡ false → sum_by f (remove_first p xs) + low ≤ sum_by f xs) → sum_by f (cond b xs (x ∷ remove_first p xs)) + low ≤ sum_by f (x ∷ xs)

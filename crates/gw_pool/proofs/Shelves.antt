@@ -1,6 +1,6 @@
 -- Rows beside connections: edits of both at one place.
-use Rattle.std.proofs.Common.{◌≡◌, ◌≢◌, ℕ, zero, suc, ◌+◌, ◌<◌, ◌≤◌, ◌==◌, ◌||◌, ◌&&◌, Bool, true, false, not, List, [], ◌∷◌, ◌++◌, length, take, drop, Option, Some, None, refl, ap, sym, ◌∙◌, arith, slice_index_or, slice_set, cond, eq-eqb, ne_eqb, eqb-true}
-use Rattle.std.specs.List.{list_any, remove, find, position}
+use Rattle.std.proofs.Common.{◌≡◌, ℕ, zero, suc, ◌+◌, ◌<◌, ◌==◌, ◌||◌, ◌&&◌, Bool, true, false, List, [], ◌∷◌, ◌++◌, length, Option, Some, None, refl, ap, sym, arith, slice_index_or, slice_set, eq-eqb, ne_eqb, eqb-true}
+use Rattle.std.specs.List.{remove, find, position}
 use Rattle.gw_pool.proofs.Edits.{taken_at, within_at, passes_at}
 use Rattle.std.specs.Option.{OnSome}
 use Rattle.gw_pool.specs.declared.shelf.Resting.{Resting}

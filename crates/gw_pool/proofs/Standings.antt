@@ -1,6 +1,6 @@
 -- How a want stands, by the rows that are found.
-use Rattle.std.proofs.Common.{◌≡◌, ℕ, ◌+◌, ◌<◌, ◌≤◌, Bool, true, false, List, [], length, Vec, vec_capacity, Option, Some, None, refl, ap, sym, ◌∙◌, arith, nat_lt, lt-ltb, le-ltb, ◌^◌, cond}
-use Rattle.std.specs.List.{find, list_any}
+use Rattle.std.proofs.Common.{◌≡◌, ℕ, ◌+◌, ◌<◌, ◌≤◌, Bool, true, false, List, [], length, Vec, vec_capacity, Option, Some, None, refl, ap, arith, lt-ltb, le-ltb, ◌^◌, cond}
+use Rattle.std.specs.List.{find}
 use Rattle.std.specs.declared.alloc.Global.{Global}
 use Rattle.gw_wire.specs.Link.{LinkView}
 use Rattle.gw_pool.specs.declared.limits.Limits.{Limits}
@@ -8,7 +8,7 @@ use Rattle.gw_pool.specs.declared.entry.Entry.{Entry}
 use Rattle.gw_pool.specs.declared.rows.Stage.{Stage}
 use Rattle.gw_pool.specs.declared.rows.Stage.TheVariants.{Waiting, Granted, Dialing}
 use Rattle.gw_pool.specs.declared.rows.Place.{Place}
-use Rattle.gw_pool.specs.declared.rows.Place.TheVariants.{Out, Idle}
+use Rattle.gw_pool.specs.declared.rows.Place.TheVariants.{Out}
 use Rattle.gw_pool.specs.declared.rows.WantRow.{WantRow}
 use Rattle.gw_pool.specs.declared.rows.ConnRow.{ConnRow}
 use Rattle.gw_pool.specs.declared.machine.Rows.{Rows}
@@ -16,9 +16,9 @@ use Rattle.gw_pool.specs.declared.answers.CoreAsk.{CoreAsk}
 use Rattle.gw_pool.specs.declared.answers.CoreAsk.TheVariants as ask
 use Rattle.gw_pool.specs.declared.entry.Call.TheVariants as call
 use Rattle.gw_pool.specs.declared.entry.Reply.TheVariants as reply
-use Rattle.gw_pool.specs.Places.{is_granted, is_out_to}
-use Rattle.gw_pool.specs.State.{State, empty, wants_it, is_with}
-use Rattle.gw_pool.specs.Machine.{Outcome, replied, cancel_row, Standing, Served, MayDial, NotServed, NotComing, standing, stands_as, stage_standing}
+use Rattle.gw_pool.specs.Places.{is_granted}
+use Rattle.gw_pool.specs.State.{State, wants_it, is_with}
+use Rattle.gw_pool.specs.Machine.{Outcome, replied, cancel_row, Served, MayDial, NotServed, NotComing, standing, stands_as, stage_standing}
 use Rattle.gw_pool.specs.History.{IsLegal, after, is_full, room}
 use Rattle.gw_pool.specs.Rows.{state_of}
 use Rattle.gw_pool.specs.Shelf.{is_lent, is_taken, IsKept}

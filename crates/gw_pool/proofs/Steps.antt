@@ -1,7 +1,7 @@
 -- What each step of the machine does to the room that the rows need, and to the next numbers.
-use Rattle.std.proofs.Common.{◌≡◌, ℕ, suc, ◌+◌, ◌*◌, ◌<◌, ◌≤◌, ◌==◌, ◌&&◌, Bool, true, false, List, [], ◌∷◌, ◌++◌, length, Option, Some, None, refl, ap, sym, ◌∙◌, arith, cond, length-append, nat_lt, eq-eqb, eqb-true, subst}
-use Rattle.std.specs.List.{find, sum_by, count_by}
-use Rattle.std.proofs.lemmas.List.Sums.{sum_by-cons, sum_by_push}
+use Rattle.std.proofs.Common.{◌≡◌, ℕ, ◌+◌, ◌≤◌, ◌==◌, Bool, true, false, [], ◌∷◌, ◌++◌, Option, Some, None, refl, sym, ◌∙◌, arith, cond, length-append, nat_lt, eq-eqb, eqb-true, subst}
+use Rattle.std.specs.List.{find, count_by}
+use Rattle.std.proofs.lemmas.List.Sums.{sum_by_push}
 use Rattle.gw_pool.specs.declared.limits.Limits.{Limits}
 use Rattle.gw_pool.specs.declared.rows.Stage.{Stage}
 use Rattle.gw_pool.specs.declared.rows.Stage.TheVariants.{Waiting, Granted, Dialing}
@@ -10,7 +10,7 @@ use Rattle.gw_pool.specs.declared.rows.Place.TheVariants.{Out, Idle}
 use Rattle.gw_pool.specs.declared.rows.WantRow.{WantRow}
 use Rattle.gw_pool.specs.declared.rows.ConnRow.{ConnRow}
 use Rattle.gw_pool.specs.declared.rows.DialRow.{DialRow}
-use Rattle.gw_pool.specs.Places.{want_room, conn_room, is_granted, is_idle, is_out_to, since_of}
+use Rattle.gw_pool.specs.Places.{want_room, conn_room, is_granted, since_of}
 use Rattle.gw_pool.specs.State.{State, remove_first, least_want, wants_host, wants_as, wants_it, dials_for, is_with, has_number, is_free, is_expired, rests, rests_for, take_conn, take_stamped, take_stamped_for, take_oldest, take_newest, oldest_stamp, newest_stamp}
 use Rattle.gw_pool.specs.Offer.{Offered, grant, evict, evict_row, rest, freed, served, offer_to, offer_conn}
 use Rattle.gw_pool.specs.declared.entry.Reply.TheVariants as reply

@@ -1,5 +1,5 @@
 -- A want's row of tokens changes at the place where it stands.
-use Rattle.std.proofs.Common.{◌≡◌, ℕ, suc, ◌+◌, ◌<◌, ◌≤◌, ◌==◌, Bool, true, false, not, List, [], ◌∷◌, length, Option, Some, None, refl, ap, sym, ◌∙◌, arith, cond, nat_lt, ltb-true, ltb-false, slice_index_or, slice_set}
+use Rattle.std.proofs.Common.{◌≡◌, ℕ, suc, ◌+◌, ◌<◌, ◌≤◌, Bool, true, false, not, List, [], ◌∷◌, length, Some, None, refl, ap, ◌∙◌, arith, cond, nat_lt, ltb-true, ltb-false, slice_index_or, slice_set}
 use Rattle.std.specs.List.{position_or_len, position, remove}
 use Rattle.gw_pool.specs.declared.holding.Holding.{Holding}
 use Rattle.gw_pool.specs.Tokens.{is_held, names, change}

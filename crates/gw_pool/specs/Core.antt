@@ -15,7 +15,6 @@ use Rattle.gw_pool.specs.declared.answers.CoreWant.{CoreWant}
 use Rattle.gw_pool.specs.declared.answers.CoreWant.TheVariants as want
 use Rattle.gw_pool.specs.declared.answers.CoreAsk.{CoreAsk}
 use Rattle.gw_pool.specs.declared.answers.CoreAsk.TheVariants as ask
-use Rattle.gw_pool.specs.declared.leases.Put.{Put}
 use Rattle.gw_pool.specs.Closes.{IsOf, Closes}
 use Rattle.gw_pool.specs.State.{State, rests}
 use Rattle.gw_pool.specs.Machine.{Outcome, step, Standing, Served, MayDial, NotServed, NotComing, standing}

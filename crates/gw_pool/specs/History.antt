@@ -1,5 +1,5 @@
 -- Histories of the pool: lists of entries, each of which fits the state that those before it lead to.
-use Rattle.std.specs.Prelude.{◌≡◌, ℕ, Bool, List, [], ◌∷◌, ◌++◌, ◌==◌, ◌+◌, ◌*◌, nat_lt, length, filter, sum_by, Option, Some, None, option_map}
+use Rattle.std.specs.Prelude.{◌≡◌, ℕ, Bool, List, [], ◌∷◌, ◌==◌, ◌+◌, ◌*◌, nat_lt, length, filter, sum_by, Option, Some, None, option_map}
 use Rattle.gw_pool.specs.declared.limits.Limits.{Limits}
 use Rattle.gw_pool.specs.declared.entry.Entry.{Entry}
 use Rattle.gw_pool.specs.declared.entry.Reply.{Reply}

@@ -1,6 +1,5 @@
 -- The pool as one caller sees it: what contracts see of it, and what its calls do.
-use Rattle.std.specs.Prelude.{◌≡◌, ◌≢◌, ℕ, Bool, true, false, not, List, [], ◌∷◌, ◌++◌, ◌==◌, ◌&&◌, ◌+◌, ◌-◌, ◌^◌, min, length, find, Option, Some, None, MatchOption, if◌then◌else◌}
-use Rattle.std.specs.List.{list_any}
+use Rattle.std.specs.Prelude.{◌≡◌, ℕ, true, false, List, [], ◌∷◌, ◌++◌, ◌+◌, ◌-◌, ◌^◌, min, find, Some, None}
 use Rattle.gw_wire.specs.Link.{LinkView}
 use Rattle.gw_pool.specs.declared.limits.Limits.{Limits}
 use Rattle.gw_pool.specs.declared.entry.Entry.{Entry}
@@ -23,7 +22,7 @@ use Rattle.gw_pool.specs.declared.leases.Put.{Put}
 use Rattle.gw_pool.specs.declared.holding.Holding.{Holding}
 use Rattle.gw_pool.specs.Closes.{IsOf, Closes}
 use Rattle.gw_pool.specs.State.{State, has_number}
-use Rattle.gw_pool.specs.Tokens.{change, ticket_of, with_dial, without_dial, without_ticket, leased, without_lease}
+use Rattle.gw_pool.specs.Tokens.{has_lease, change, ticket_of, with_dial, without_dial, without_ticket, leased, without_lease}
 use Rattle.gw_pool.specs.Machine.{Outcome, step, Standing, Served, MayDial, NotServed, NotComing, standing}
 use Rattle.gw_pool.specs.History.{IsLegal, after, mine, is_full}
 
@@ -36,16 +35,6 @@ pub record Lent : Type 0 where
   pub mine : List Entry
   pub out : List Holding
   pub waits : ℕ
-
--- tokens of a want that are out
-abbrev pub has_ticket : ℕ → List Holding → Bool
-has_ticket want out = list_any (λ h. (h.want == want) && h.ticket) out
-
-abbrev pub has_dial : ℕ → List Holding → Bool
-has_dial want out = list_any (λ h. (h.want == want) && h.dial) out
-
-abbrev pub has_lease : ℕ → List Holding → Bool
-has_lease want out = list_any (λ h. (h.want == want) && h.lease) out
 
 -- What stays in every call: the limits and the caller's number. What the caller knew before, it knows still: since
 -- then other callers made the entries `others`, and none else.

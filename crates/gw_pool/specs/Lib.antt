@@ -9,3 +9,4 @@ pub mod Rows
 pub mod Lent
 pub mod Core
 pub mod Tokens
+pub mod Ties

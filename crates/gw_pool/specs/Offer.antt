@@ -1,6 +1,6 @@
 -- A free place goes to the least waiting want of its host; an offered connection goes to the least want of its
 -- host, or becomes idle, or is closed.
-use Rattle.std.specs.Prelude.{ℕ, Bool, true, false, not, List, [], ◌∷◌, ◌++◌, ◌+◌, nat_lt, count_by, Option, Some, None, if◌then◌else◌}
+use Rattle.std.specs.Prelude.{ℕ, true, [], ◌∷◌, ◌++◌, ◌+◌, nat_lt, count_by, Option, Some, None, if◌then◌else◌}
 use Rattle.gw_pool.specs.declared.limits.Limits.{Limits}
 use Rattle.gw_pool.specs.declared.entry.Offer.{Offer}
 use Rattle.gw_pool.specs.declared.entry.Offer.TheVariants as offer

@@ -1,8 +1,6 @@
 -- The rows that the pool keeps, as a state of the machine; and what its steps keep.
-use Rattle.std.specs.Prelude.{◌≡◌, ℕ, ◌<◌, length, vec_len, vec_capacity, Option, Some, None}
-use Rattle.gw_wire.specs.Link.{LinkView}
+use Rattle.std.specs.Prelude.{◌≡◌, ◌<◌, length, vec_len, vec_capacity}
 use Rattle.gw_pool.specs.declared.machine.Rows.{Rows}
-use Rattle.gw_pool.specs.declared.rows.ConnRow.{ConnRow}
 use Rattle.gw_pool.specs.State.{State}
 use Rattle.gw_pool.specs.Shelf.{LeavesTaken}
 

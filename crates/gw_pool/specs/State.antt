@@ -1,6 +1,6 @@
 -- The state of the pool: flat lists of rows, whose order says nothing, and the next numbers.
 -- 'Used', 'free', 'the least want' and 'expired' are counts and filters over these lists.
-use Rattle.std.specs.Prelude.{ℕ, Bool, true, false, not, List, [], ◌∷◌, ◌==◌, ◌&&◌, ◌||◌, ◌+◌, nat_lt, fold, map, filter, find, count_by, Option, Some, None, if◌then◌else◌}
+use Rattle.std.specs.Prelude.{ℕ, Bool, not, List, [], ◌∷◌, ◌==◌, ◌&&◌, ◌||◌, ◌+◌, nat_lt, fold, map, filter, find, count_by, Option, Some, None, if◌then◌else◌}
 use Rattle.gw_pool.specs.declared.limits.Limits.{Limits}
 use Rattle.gw_pool.specs.declared.rows.WantRow.{WantRow}
 use Rattle.gw_pool.specs.declared.rows.DialRow.{DialRow}

@@ -1,5 +1,7 @@
 //! The journal: what was asked of the pool, and what it answered.
 
+use std::mem::size_of;
+
 /// One call and its reply.
 #[derive(Clone, Copy, Debug)]
 pub struct Entry {
@@ -10,6 +12,9 @@ pub struct Entry {
     /// What was answered.
     pub reply: Reply,
 }
+
+// What the journal takes for an entry, in bytes.
+const _: () = prove!(size_of::<Entry>() <= 128);
 
 /// A call of the pool's machine. Times are milliseconds since 1970-01-01T00:00:00Z.
 #[derive(Clone, Copy, Debug)]

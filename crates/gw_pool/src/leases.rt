@@ -1,7 +1,8 @@
 //! The pool as one caller sees it.
 
 ghost use Rattle.std.specs.Prelude.{◌≡◌, ◌<◌, true, length};
-ghost use Rattle.gw_pool.specs.Lent.{Lent, WantStep, AskStep, StartStep, DialedStep, DialFailedStep, CancelStep, DropStep, has_ticket, has_dial, LeaseOf};
+ghost use Rattle.gw_pool.specs.Lent.{Lent, WantStep, AskStep, StartStep, DialedStep, DialFailedStep, CancelStep, DropStep, LeaseOf};
+ghost use Rattle.gw_pool.specs.Tokens.{has_ticket, has_dial};
 
 use gw_wire::Link;
 

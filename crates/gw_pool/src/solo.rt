@@ -1,8 +1,6 @@
 //! The pool of a gateway with one caller.
 
 ghost use Rattle.std.specs.Prelude.{◌≡◌, ◌<◌, [], IfOk, IfErr};
-ghost use Rattle.gw_pool.specs.Core.{IsQuiet};
-ghost use Rattle.gw_pool.specs.History.{after};
 ghost use Rattle.gw_pool.specs.Lent.{LeaseOf, DropStep};
 
 use crate::answers::{Closed, CoreAsk, CoreWant};
@@ -24,10 +22,13 @@ pub struct Solo<C: Link> {
 
 impl<C: Link> Model for Solo<C> {
     ghost use Rattle.gw_pool.specs.Lent.{Lent};
+    ghost use Rattle.gw_pool.specs.Ties.{SoloHolds};
 
     ghost Value = { Lent };
 
     ghost view = { λ s. record { limits = s.core.limits; number = 0; seen = s.core.journal; mine = s.core.journal; out = s.out.out; waits = s.waits } };
+
+    ghost invariant = { λ s. SoloHolds s.core s.out };
 }
 
 impl<C: Link> Solo<C> {
@@ -53,7 +54,7 @@ impl<C: Link> Solo<C> {
 
     /// Closes the pool, none of whose tokens is out. An error is want of memory and gives the pool back as it was.
     pub fn close(self) -> Result<Closed<C>, Solo<C>>
-        requires { IsQuiet (after self.limits self.seen) }
+        requires { self.out ≡ [] }
         ensures journal { IfOk result (λ c. c.journal.items ≡ self.seen) }
         ensures mine { IfOk result (λ c. c.journal.items ≡ self.mine) }
         ensures back { IfErr result (λ s. s ≡ self) }

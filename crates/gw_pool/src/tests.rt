@@ -1,4 +1,8 @@
-//! The first exchange, over ample memory.
+//! The first exchange, by a caller of any leases, over ample memory.
+
+ghost use Rattle.std.specs.Prelude.{◌≡◌, ◌<◌, ◌∷◌, []};
+ghost use Rattle.gw_pool.specs.History.{IsLegal};
+ghost use Rattle.gw_pool.specs.Tokens.{ticket_of};
 
 use crate::answers::Closed;
 use crate::leases::{Ask, Leases, Put, Start, Ticket, Want};
@@ -6,7 +10,11 @@ use crate::limits::Limits;
 use crate::solo::Solo;
 use std::test::Fail;
 
-fn limits() -> Limits {
+fn limits() -> Limits
+    ensures hosts { 0 < result.hosts }
+    ensures passes { 0 < result.passes }
+    ensures per_pass { 0 < result.per_pass }
+{
     Limits {
         idle_total: 100,
         idle_per_host: 2,
@@ -19,17 +27,33 @@ fn limits() -> Limits {
     }
 }
 
-/// Wants, dials and drops a connection with the link number 40; false where an answer was another than expected.
-fn exchange<L: Leases<u64>>(pool: &mut L) -> bool {
+fn given_up<L: Leases<u64>>(pool: &mut L, t: Ticket) -> Option<u64>
+    requires { (L.lent pool.old).out ≡ ticket_of t.want ∷ [] }
+    ensures out { (L.lent pool.new).out ≡ [] }
+    ensures legal { IsLegal (L.lent pool.new).limits (L.lent pool.new).seen }
+{
+    let Put { close: _ } = pool.cancel(t, 7);
+    None
+}
+
+/// Wants, dials and drops a connection with the link number 40, and says which was dropped.
+fn exchange<L: Leases<u64>>(pool: &mut L) -> Option<u64>
+    requires out { (L.lent pool.old).out ≡ [] }
+    requires host { 0 < (L.lent pool.old).limits.hosts }
+    requires few { 0 < (L.lent pool.old).limits.per_pass }
+    ensures out { (L.lent pool.new).out ≡ [] }
+    ensures legal { IsLegal (L.lent pool.new).limits (L.lent pool.new).seen }
+{
     let t = match pool.want(0, 7) {
         Want::Ticket(t) => t,
-        Want::Expired(_) | Want::JournalFull => return false,
+        Want::Expired(_) => return None,
+        Want::JournalFull => return None,
     };
     let t = match pool.ask(t) {
         Ask::Granted(t) => t,
         Ask::NotYet(t) => return given_up(pool, t),
-        Ask::Taken(l) => return pool.drop_conn(l) == 41,
-        Ask::Failed => return false,
+        Ask::Taken(l) => return Some(pool.drop_conn(l)),
+        Ask::Failed => return None,
     };
     let d = match pool.start(&t) {
         Start::Go(d) => d,
@@ -37,21 +61,17 @@ fn exchange<L: Leases<u64>>(pool: &mut L) -> bool {
     };
     let Put { close: _ } = pool.dialed(d, 40, 7);
     match pool.ask(t) {
-        Ask::Taken(l) => pool.drop_conn(l) == 40,
-        Ask::Granted(t) | Ask::NotYet(t) => given_up(pool, t),
-        Ask::Failed => false,
+        Ask::Taken(l) => Some(pool.drop_conn(l)),
+        Ask::Granted(t) => given_up(pool, t),
+        Ask::NotYet(t) => given_up(pool, t),
+        Ask::Failed => None,
     }
-}
-
-fn given_up<L: Leases<u64>>(pool: &mut L, t: Ticket) -> bool {
-    let Put { close: _ } = pool.cancel(t, 7);
-    false
 }
 
 #[test]
 fn first_exchange(rt: HostRuntime) -> Result<(), Fail> {
     let mut pool = Solo::open(rt.alloc(), limits())?;
-    assert!(rt; exchange(&mut pool));
+    assert_eq!(rt; exchange(&mut pool), Some(40));
     match pool.close() {
         Ok(Closed { journal, idle }) => {
             assert_eq!(rt; idle.len(), 0);

@@ -1,9 +1,10 @@
 -- How a want for a connection ends: what is out afterwards.
-use Rattle.std.specs.Prelude.{ℕ, ◌≡◌, Bool, true, false, List, [], ◌∷◌}
+use Rattle.std.specs.Prelude.{ℕ, ◌≡◌, true, false, [], ◌∷◌}
 use Rattle.gw_wire.specs.Link.{LinkView}
 use Rattle.gw_wire.specs.Wire.{WireView, Later}
 use Rattle.gw_pool.specs.declared.holding.Holding.{Holding}
-use Rattle.gw_pool.specs.Lent.{Lent, LeaseOf, ticket_of}
+use Rattle.gw_pool.specs.Lent.{Lent, LeaseOf}
+use Rattle.gw_pool.specs.Tokens.{ticket_of}
 use Rattle.gw_top.specs.declared.lease.Leased.{Leased}
 use Rattle.gw_top.specs.declared.lease.Leased.TheVariants as leased
 use Rattle.gw_top.specs.declared.lease.Wanted.{Wanted}

@@ -1,4 +1,5 @@
 pub mod Command
+pub mod Hearing
 pub mod Leased
 pub mod Status
 pub mod Waits

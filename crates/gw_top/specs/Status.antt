@@ -1,5 +1,5 @@
 -- What a run's status says.
-use Rattle.std.specs.Prelude.{ℕ, ◌≡◌, ◌<◌, ◌⊎◌, length, vec_capacity, Bool, true, false, List, [], map, None, All, Contains, String}
+use Rattle.std.specs.Prelude.{ℕ, ◌≡◌, ◌<◌, ◌⊎◌, length, vec_capacity, true, false, List, [], map, None, All, Contains, String}
 use Rattle.std.specs.declared.alloc.Global.{Global}
 use Rattle.gw_wire.specs.Causes.{Rose}
 use Rattle.gw_wire.specs.Wire.{WireView}

@@ -1,6 +1,8 @@
 // One client connection, which carries one request.
 
 ghost use Rattle.std.specs.Prelude.{◌≡◌, ◌<◌, ◌≤◌, [], length, false, take, min};
+ghost use Rattle.gw_wire.specs.Stretch.{Told};
+ghost use Rattle.gw_top.specs.Hearing.{HearsRequest};
 ghost use Rattle.gw_top.specs.Leased.{KeepsOn};
 ghost use Rattle.gw_top.specs.Waits.{GoesOn};
 
@@ -86,15 +88,20 @@ fn hear_request<W: Wire>(
     requires fresh { (W.wire wire.old).aged ≡ false }
     requires room { 0 < length buf.old }
     ensures goes { GoesOn (W.wire wire.old) (W.wire wire.new) (W.Conn.link client.old) (W.Conn.link client.new) }
+    ensures log { Told (W.wire wire.old).log (W.wire wire.new).log (HearsRequest (W.Conn.link client.old).number result) }
 {
     let Ok(mut reader) = HeadReader::new(alloc) else {
         return Request::NoMemory;
     };
     for piece in 0..PIECES {
-        let Heard::Got(n) = hear(wire, client, buf) else {
-            return Request::Gone(piece > 0);
+        let n = match hear(wire, client, buf) {
+            Heard::Got(n) => n,
+            Heard::End => return Request::Gone(piece > 0),
+            Heard::Failed => return Request::Gone(piece > 0),
+            Heard::Timeout => return Request::Gone(piece > 0),
         };
-        match reader.feed_request(&buf[..n]).step {
+        let fed = reader.feed_request(&buf[..n]);
+        match fed.step {
             Step::More => {}
             Step::Head(head) => return Request::Head(head),
             Step::Bad(_) => return Request::Refused,

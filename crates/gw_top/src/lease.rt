@@ -2,7 +2,7 @@
 
 ghost use Rattle.std.specs.Prelude.{◌≡◌, ◌<◌, [], ◌∷◌, false};
 ghost use Rattle.gw_wire.specs.Wire.{Later};
-ghost use Rattle.gw_pool.specs.Lent.{ticket_of};
+ghost use Rattle.gw_pool.specs.Tokens.{ticket_of};
 ghost use Rattle.gw_top.specs.Leased.{KeepsOn, OutOf, OutOfWant};
 
 use gw_pool::{Ask, Lease, Leases, Put, Start, Ticket, Want};

@@ -2,9 +2,10 @@
 
 ghost use Rattle.std.specs.Prelude.{◌≡◌, ◌<◌, [], ◌∷◌, length, false, IfOk, vec_capacity};
 ghost use Rattle.gw_wire.specs.Causes.{Rose};
+ghost use Rattle.gw_wire.specs.Wire.{Later};
 ghost use Rattle.gw_wire.specs.World.{WorldLater};
 ghost use Rattle.gw_top.specs.Command.{IsServe};
-ghost use Rattle.gw_top.specs.Status.{StatusCauses, Refuses, RefusesOr7, IsReady, ServeCauses};
+ghost use Rattle.gw_top.specs.Status.{FailedRightly, StatusCauses, Refuses, RefusesOr7, IsReady, ServeCauses};
 
 use crate::command::{USAGE, serve_name};
 use crate::route_file::{Table, read_addresses};
@@ -115,7 +116,7 @@ fn listen_and_serve<R: Wait, H: World>(
         table,
         backend,
         mut pool,
-        mut workers,
+        workers,
         mut buf,
     } = setup;
     let wire = match world.listen(&table.listen, table.workers) {
@@ -133,14 +134,52 @@ fn listen_and_serve<R: Wait, H: World>(
     let Ok(Closed { journal, idle }) = pool.close() else {
         return out_of_memory(alloc, world);
     };
+    close_all(&mut worker.wire, idle);
+    finish(world, table, journal, workers, worker)
+}
+
+// Closes the connections that are still idle, the least recently idle first.
+fn close_all<W: Wire>(wire: &mut W, idle: Vec<W::Conn>)
+    ensures { Later (W.wire wire.old) (W.wire wire.new) }
+{
     for conn in idle {
-        worker.wire.close(conn);
+        wire.close(conn);
     }
-    let mut status = 0;
+}
+
+// The report of a run that served; it says where an accept failed.
+fn finish<H: World>(
+    world: &mut H,
+    table: Table,
+    journal: Vec<Entry>,
+    workers: Vec<Worker<H::Wire>>,
+    worker: Worker<H::Wire>,
+) -> Report<H::Wire>
+    requires nobody { workers.items ≡ [] }
+    requires place { 0 < vec_capacity workers }
+    requires rightly { FailedRightly H.Wire.wire worker }
+    ensures causes { ServeCauses H.Wire.wire (H.world world.old) (H.world world.new) result }
+{
     if worker.accept_failed {
-        status = 8;
         let _ = world.print(b"accept failed\n");
+        return report_on(8, table, journal, workers, worker);
     }
+    report_on(0, table, journal, workers, worker)
+}
+
+fn report_on<W>(
+    status: u8,
+    table: Table,
+    journal: Vec<Entry>,
+    workers: Vec<Worker<W>>,
+    worker: Worker<W>,
+) -> Report<W>
+    requires nobody { workers.items ≡ [] }
+    requires place { 0 < vec_capacity workers }
+    ensures status { result.status ≡ status }
+    ensures workers { result.workers.items ≡ worker ∷ [] }
+{
+    let mut workers = workers;
     workers.push(worker).unwrap();
     Report {
         status,

@@ -1,5 +1,5 @@
 use Rattle.std.proofs.Common.{◌≡◌, [], ◌∷◌}
-use Rattle.gw_pool.specs.Lent.{ticket_of}
+use Rattle.gw_pool.specs.Tokens.{ticket_of}
 use Rattle.gw_top.specs.Leased.{KeepsOn}
 use Rattle.gw_top.proofs.lease.ask.Given as goal
 

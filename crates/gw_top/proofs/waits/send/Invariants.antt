@@ -1,4 +1,4 @@
-use Rattle.std.proofs.Common.{◌≤◌, ◌-◌, length, take}
+use Rattle.std.proofs.Common.{◌-◌, length, take}
 use Rattle.gw_top.specs.Waits.{Sending}
 use Rattle.gw_top.proofs.waits.send.Given as goal
 

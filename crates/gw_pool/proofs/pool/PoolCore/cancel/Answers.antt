@@ -1,14 +1,13 @@
 -- The machine's step on a want that is given up, and its entry.
-use Rattle.std.proofs.Common.{sym, ◌∙◌, ap, Some, None}
+use Rattle.std.proofs.Common.{sym, ◌∙◌, ap, None}
 use Rattle.std.specs.List.{find}
-use Rattle.gw_pool.specs.State.{wants_it, dials_for, has_number, is_with}
-use Rattle.gw_pool.specs.Machine.{start_row, dialed_row, failed_row, drop_row, cancel_row, cancel_conn, want_step}
+use Rattle.gw_pool.specs.State.{wants_it}
+use Rattle.gw_pool.specs.Machine.{cancel_row}
 use Rattle.gw_pool.specs.Rows.{state_of}
 use Rattle.gw_pool.specs.declared.entry.Call.TheVariants as call
-use Rattle.gw_pool.specs.declared.entry.Reply.TheVariants as reply
-use Rattle.gw_pool.proofs.Fits.{start_fits, start_unfit, start_none, dialed_fits, failed_fits, cancel_fits, cancel_conn_fits, drop_fits, want_fits}
-use Rattle.gw_pool.proofs.Steps.{start_goes, start_reply, dialed_goes, failed_goes, drop_goes, cancel_goes, cancel_conn_goes, want_goes}
-use Rattle.gw_pool.proofs.Entries.{Stepped, has_room, stepped, holds_then, enters_then}
+use Rattle.gw_pool.proofs.Fits.{cancel_fits}
+use Rattle.gw_pool.proofs.Steps.{cancel_goes}
+use Rattle.gw_pool.proofs.Entries.{has_room, stepped, holds_then, enters_then}
 use Rattle.gw_pool.proofs.pool.PoolCore.cancel.Goals as goal
 use Rattle.gw_pool.proofs.Standings.{cancelled_want, cancel_gone}
 

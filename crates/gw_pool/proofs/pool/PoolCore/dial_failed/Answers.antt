@@ -1,5 +1,5 @@
 -- The machine's step on a failed dial, and its entry.
-use Rattle.std.proofs.Common.{sym, ◌∙◌, ap, Some}
+use Rattle.std.proofs.Common.{sym, ◌∙◌, ap}
 use Rattle.std.specs.List.{find}
 use Rattle.gw_pool.specs.State.{dials_for}
 use Rattle.gw_pool.specs.Machine.{failed_row}
@@ -7,7 +7,7 @@ use Rattle.gw_pool.specs.Rows.{state_of}
 use Rattle.gw_pool.specs.declared.entry.Call.TheVariants as call
 use Rattle.gw_pool.proofs.Fits.{failed_fits}
 use Rattle.gw_pool.proofs.Steps.{failed_goes}
-use Rattle.gw_pool.proofs.Entries.{Stepped, has_room, stepped, holds_then, enters_then}
+use Rattle.gw_pool.proofs.Entries.{has_room, stepped, holds_then, enters_then}
 use Rattle.gw_pool.proofs.pool.PoolCore.dial_failed.Goals as goal
 
 pub failed-reply-requires : goal.failed-reply-requires

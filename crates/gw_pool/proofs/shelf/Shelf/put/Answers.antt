@@ -1,5 +1,5 @@
 -- A row and its connection stand at the same place.
-use Rattle.std.proofs.Common.{arith, sym, ◌∙◌, ap}
+use Rattle.std.proofs.Common.{arith}
 use Rattle.gw_pool.proofs.Shelves.{kept_length, kept_push, taken_push}
 use Rattle.gw_pool.proofs.shelf.Shelf.put.Goals as goal
 

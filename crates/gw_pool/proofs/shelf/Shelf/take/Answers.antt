@@ -1,5 +1,5 @@
 -- A row and its connection are taken out at the same place.
-use Rattle.std.proofs.Common.{arith, sym, ◌∙◌, ap, Some, ◌<◌, length}
+use Rattle.std.proofs.Common.{arith, sym, ◌∙◌, ap, Some}
 use Rattle.gw_pool.proofs.Edits.{taken_at, not_there}
 use Rattle.gw_pool.proofs.Shelves.{kept_length, kept_remove, kept_at, taken_remove}
 use Rattle.gw_pool.proofs.shelf.Shelf.take.Goals as goal

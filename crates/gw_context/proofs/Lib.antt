@@ -1,0 +1,6 @@
+pub mod Births
+pub mod Members
+pub mod Moments
+pub mod Passing
+pub mod Soundness
+pub mod WorkedTree

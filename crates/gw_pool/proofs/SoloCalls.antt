@@ -1,0 +1,373 @@
+-- The calls of a pool with one caller, by those of the pool below.
+use Rattle.std.proofs.Common.{◌≡◌, ℕ, ◌<◌, ◌≤◌, ◌⊎◌, inl, inr, Bool, true, false, List, [], ◌∷◌, ◌++◌, Option, Some, None, refl, ap, sym, ◌∙◌, arith, cond, subst, append-nil}
+use Rattle.std.specs.List.{find}
+use Rattle.std.specs.Option.{IsSome}
+use Rattle.std.proofs.lemmas.List.Sums.{sum_by-cons}
+use Rattle.gw_wire.specs.Link.{LinkView}
+use Rattle.gw_pool.specs.declared.limits.Limits.{Limits}
+use Rattle.gw_pool.specs.declared.entry.Call.{Call}
+use Rattle.gw_pool.specs.declared.entry.Call.TheVariants as call
+use Rattle.gw_pool.specs.declared.holding.Holding.{Holding}
+use Rattle.gw_pool.specs.declared.rows.Stage.{Stage}
+use Rattle.gw_pool.specs.declared.rows.Stage.TheVariants.{Waiting, Granted, Dialing}
+use Rattle.gw_pool.specs.declared.rows.Place.{Place}
+use Rattle.gw_pool.specs.declared.rows.Place.TheVariants.{Out, Idle}
+use Rattle.gw_pool.specs.declared.rows.WantRow.{WantRow}
+use Rattle.gw_pool.specs.declared.rows.ConnRow.{ConnRow}
+use Rattle.gw_pool.specs.declared.rows.DialRow.{DialRow}
+use Rattle.gw_pool.specs.declared.leases.Ticket.{Ticket}
+use Rattle.gw_pool.specs.declared.leases.Put.{Put}
+use Rattle.gw_pool.specs.Closes.{IsOf}
+use Rattle.gw_pool.specs.State.{State, empty, wants_it, dials_for, has_number, is_with}
+use Rattle.gw_pool.specs.Machine.{Outcome, want_step, Standing, Served, MayDial, NotServed, NotComing, standing, stands_as, stage_standing}
+use Rattle.gw_pool.specs.History.{IsLegal, after, is_full}
+use Rattle.gw_pool.specs.Shelf.{LeavesTaken}
+use Rattle.gw_pool.specs.Tokens.{TokensView, change, ticket_of, has_ticket, has_dial, has_lease, with_dial, without_dial, without_ticket, leased, without_lease}
+use Rattle.gw_pool.specs.Core.{CoreView, Enters, Started, Done, DonePut, CancelDone, state_at, WantMade as CoreMade, WantExpired as CoreExpired, AskTaken as CoreTaken}
+use Rattle.gw_pool.specs.Lent as lent
+use Rattle.gw_pool.specs.Lent.{Lent, Meets, Calls, Looks, Leaves}
+use Rattle.gw_pool.specs.Ties.{Tied, SoloHolds, Owns, OutBy, dials_of, one, bit, Weigh, weight, occ_of, dia_of, con_of}
+use Rattle.gw_pool.proofs.Edits.{found_passes}
+use Rattle.gw_pool.proofs.Shelves.{out_at}
+use Rattle.gw_pool.proofs.Histories.{entered_state}
+use Rattle.gw_pool.proofs.Owns.{found_among}
+use Rattle.gw_pool.proofs.Inverts.{want_was, start_was, dialed_was, failed_was, cancel_was, drop_was, CancelRowWas, CancelConnWas}
+use Rattle.gw_pool.proofs.TieCalls.{tie_start, tie_dialed, tie_failed, tie_lease, tie_none, tie_cancel, tie_cancel_conn, tie_drop, leased_has}
+use Rattle.gw_pool.proofs.TieWant.{tie_made, tie_expired, with_number}
+
+abbrev pub lent_of : CoreView → TokensView → ℕ → Lent
+lent_of core tokens waits = record { limits = core.limits; number = 0; seen = core.journal; mine = core.journal; out = tokens.out; waits = waits }
+
+-- an entry is the caller's, and nobody else made one
+pub calls : (core core' : CoreView) (t t' : TokensView) (w w' : ℕ) (asked : Call) (outcome : Outcome) → Enters core core' 0 asked outcome → Calls (lent_of core t w) (lent_of core' t' w') [] asked outcome
+calls core core' t t' w w' asked outcome e = record {
+  meets = record { limits = e.limits; number = refl; foreign = refl; legal = e.legal };
+  fits = rw (append-nil core.journal) e.fits;
+  seen = rw (append-nil core.journal) e.journal;
+  mine = e.journal;
+}
+
+pub looks : (core core' : CoreView) (t t' : TokensView) (w w' : ℕ) → IsLegal core.limits core.journal → core'.limits ≡ core.limits → core'.journal ≡ core.journal → Looks (lent_of core t w) (lent_of core' t' w') []
+looks core core' t t' w w' l a b = record {
+  meets = record { limits = a; number = refl; foreign = refl; legal = rw (a, b) l };
+  seen = rw (append-nil core.journal) b;
+  mine = b;
+}
+
+-- the state after an entry
+at_outcome : (core core' : CoreView) (caller : ℕ) (asked : Call) (outcome : Outcome) → Enters core core' caller asked outcome → state_at core' ≡ outcome.state
+at_outcome core core' caller asked outcome e = rw (e.limits, e.journal) (entered_state core.limits core.journal caller asked outcome e.fits)
+
+tied_after : (core core' : CoreView) (caller : ℕ) (asked : Call) (outcome : Outcome) (out : List Holding) (taken : List ℕ) → Enters core core' caller asked outcome → Tied outcome.state out taken → Tied (state_at core') out taken
+tied_after core core' caller asked outcome out taken e k = rw (at_outcome core core' caller asked outcome e) k
+
+holds_after : (core core' : CoreView) (t t' : TokensView) (caller : ℕ) (asked : Call) (outcome : Outcome) (out : List Holding) → SoloHolds core t → Enters core core' caller asked outcome → t'.room ≡ t.room → t'.out ≡ out → Tied outcome.state out core'.taken → SoloHolds core' t'
+holds_after core core' t t' caller asked outcome out h e r o k = record {
+  tied = rw o (tied_after core core' caller asked outcome out core'.taken e k);
+  legal = e.legal;
+  passes = rw e.limits h.passes;
+  room = rw (e.limits, r) h.room;
+}
+
+holds_here : (core core' : CoreView) (t t' : TokensView) (out : List Holding) → SoloHolds core t → core'.limits ≡ core.limits → core'.journal ≡ core.journal → t'.room ≡ t.room → t'.out ≡ out → Tied (state_at core) out core'.taken → SoloHolds core' t'
+holds_here core core' t t' out h a b r o k = record {
+  tied = rw (a, b, o) k;
+  legal = rw (a, b) h.legal;
+  passes = rw a h.passes;
+  room = rw (a, r) h.room;
+}
+
+-- want
+pub holds_made : (core core' : CoreView) (t t' : TokensView) (host now v : ℕ) → SoloHolds core t → CoreMade core core' 0 host now v → t'.out ≡ t.out ++ ticket_of v ∷ [] → t'.room ≡ t.room → SoloHolds core' t'
+holds_made core core' t t' host now v h m o r =
+    let same = want_was core.limits (state_at core) 0 host now m.outcome m.enters.fits in
+    holds_after core core' t t' 0 (call.Want host now) m.outcome (t.out ++ ticket_of v ∷ []) h m.enters r o
+    (rw same (tie_made core.limits (state_at core) t.out core.taken core'.taken host now v h.tied (rw same at m.is_made) m.enters.taken))
+
+gone_some : {C : Type 0} (link : C → LinkView) (conn : C) (o : Option ConnRow) → IsOf link conn o → (r : ConnRow) × (o ≡ Some r)
+gone_some link conn None i = absurd i
+gone_some link conn (Some r) i = (r, refl)
+
+pub holds_expired : {C : Type 0} (link : C → LinkView) (core core' : CoreView) (t : TokensView) (host now : ℕ) (conn : C) → SoloHolds core t → CoreExpired link core core' 0 host now conn → SoloHolds core' t
+holds_expired link core core' t host now conn h m =
+    let same = want_was core.limits (state_at core) 0 host now m.outcome m.enters.fits in
+    let gone = gone_some link conn m.outcome.gone m.close in
+    let gone' : (want_step core.limits (state_at core) 0 host now).gone ≡ Some gone.0 = sym (ap (λ (o : Outcome). o.gone) same) ∙ gone.1 in
+    holds_after core core' t t 0 (call.Want host now) m.outcome t.out h m.enters refl refl
+    (rw same (tie_expired core.limits (state_at core) t.out core.taken core'.taken host now gone.0 h.tied gone' m.enters.taken))
+
+-- start
+start_zero : (core core' : CoreView) (t : TokensView) (w : ℕ) → SoloHolds core t → (s : Started core core' w) → s.caller ≡ 0
+start_zero core core' t w h s =
+    let was = start_was core.limits (state_at core) s.caller w s.outcome s.enters.fits in
+    sym was.by ∙ h.tied.own.wants was.row (found_among (wants_it w) was.row (state_at core).wants was.found)
+
+pub start_enters : (core core' : CoreView) (t : TokensView) (w : ℕ) → SoloHolds core t → (s : Started core core' w) → Enters core core' 0 (call.Start w) s.outcome
+start_enters core core' t w h s = let P : ℕ → Type 0 = λ n. Enters core core' n (call.Start w) s.outcome in subst P (start_zero core core' t w h s) s.enters
+
+pub holds_start : (core core' : CoreView) (t t' : TokensView) (w : ℕ) → SoloHolds core t → Started core core' w → has_ticket w t.out ≡ true → t'.out ≡ change w with_dial t.out → t'.room ≡ t.room → SoloHolds core' t'
+holds_start core core' t t' w h s k o r =
+    let was = start_was core.limits (state_at core) s.caller w s.outcome s.enters.fits in
+    let same = was.same in
+    holds_after core core' t t' s.caller (call.Start w) s.outcome (change w with_dial t.out) h s.enters r o
+    (rw same (tie_start (state_at core) t.out core.taken core'.taken w was.row h.tied was.found was.granted k s.enters.taken))
+
+-- dialed and failed
+none_dials_by : (w : ℕ) (x : DialRow) (xs : List DialRow) (b : Bool) → dials_for w x ≡ b → cond b (Some x) (find (dials_for w) xs) ≡ None → (find (dials_for w) xs ≡ None → dials_of w xs ≡ 0) → dials_of w (x ∷ xs) ≡ 0
+none_dials_by w x xs true p e k = absurd (cc)
+none_dials_by w x xs false p e k = let here : one w x.want ≡ 0 = (rw p) in omega (arith, sum_by-cons (λ (r : DialRow). one w r.want) x xs, here, k e)
+
+none_dials : (w : ℕ) (xs : List DialRow) → find (dials_for w) xs ≡ None → dials_of w xs ≡ 0
+none_dials w [] e = refl
+none_dials w (x ∷ xs) e = none_dials_by w x xs (dials_for w x) refl e (none_dials w xs)
+
+some_dial : (w : ℕ) (xs : List DialRow) (o : Option DialRow) → find (dials_for w) xs ≡ o → dials_of w xs ≡ 1 → IsSome o
+some_dial w xs None f e = absurd (omega (arith, none_dials w xs f, e))
+some_dial w xs (Some r) f e = refl
+
+pub has_dial_row : (core : CoreView) (t : TokensView) (w : ℕ) → SoloHolds core t → has_dial w t.out ≡ true → IsSome (find (dials_for w) (state_at core).dials)
+has_dial_row core t w h k = some_dial w (state_at core).dials (find (dials_for w) (state_at core).dials) refl (h.tied.dials w ∙ ap bit k)
+
+pub failed_enters : (core core' : CoreView) (t : TokensView) (w : ℕ) → SoloHolds core t → (s : Done core core' (call.DialFailed w)) → Enters core core' 0 (call.DialFailed w) s.outcome
+failed_enters core core' t w h s =
+    let was = failed_was core.limits (state_at core) s.caller w s.outcome s.enters.fits in
+    let P : ℕ → Type 0 = λ n. Enters core core' n (call.DialFailed w) s.outcome in
+    subst P (sym was.by ∙ h.tied.own.dials was.row (found_among (dials_for w) was.row (state_at core).dials was.found)) s.enters
+
+pub holds_failed : (core core' : CoreView) (t t' : TokensView) (w : ℕ) → SoloHolds core t → Done core core' (call.DialFailed w) → has_dial w t.out ≡ true → t'.out ≡ change w without_dial t.out → t'.room ≡ t.room → SoloHolds core' t'
+holds_failed core core' t t' w h s k o r =
+    let was = failed_was core.limits (state_at core) s.caller w s.outcome s.enters.fits in
+    let same = was.same in
+    holds_after core core' t t' s.caller (call.DialFailed w) s.outcome (change w without_dial t.out) h s.enters r o
+    (rw same (tie_failed core.limits (state_at core) t.out core.taken core'.taken w was.row h.tied was.found k s.enters.taken))
+
+pub dialed_enters : {C : Type 0} (link : C → LinkView) (core core' : CoreView) (t : TokensView) (w number now : ℕ) (close : Option C) → SoloHolds core t → (s : DonePut link core core' (call.Dialed w number now) close) → Enters core core' 0 (call.Dialed w number now) s.outcome
+dialed_enters link core core' t w number now close h s =
+    let was = dialed_was core.limits (state_at core) s.caller w number now s.outcome s.enters.fits in
+    let P : ℕ → Type 0 = λ n. Enters core core' n (call.Dialed w number now) s.outcome in
+    subst P (sym was.by ∙ h.tied.own.dials was.row (found_among (dials_for w) was.row (state_at core).dials was.found)) s.enters
+
+pub holds_dialed : {C : Type 0} (link : C → LinkView) (core core' : CoreView) (t t' : TokensView) (w number now : ℕ) (close : Option C) → SoloHolds core t → DonePut link core core' (call.Dialed w number now) close → has_dial w t.out ≡ true → t'.out ≡ change w without_dial t.out → t'.room ≡ t.room → SoloHolds core' t'
+holds_dialed link core core' t t' w number now close h s k o r =
+    let was = dialed_was core.limits (state_at core) s.caller w number now s.outcome s.enters.fits in
+    let same = was.same in
+    holds_after core core' t t' s.caller (call.Dialed w number now) s.outcome (change w without_dial t.out) h s.enters r o
+    (rw same (tie_dialed core.limits (state_at core) t.out core.taken core'.taken w number now was.row h.tied was.found k s.enters.taken))
+
+-- ask
+pub holds_taken : {C : Type 0} (link : C → LinkView) (core core' : CoreView) (t t' : TokensView) (w : ℕ) (conn : C) (n : ℕ) (reused : Bool) (host : ℕ) → SoloHolds core t → CoreTaken link core core' w conn n reused host → has_ticket w t.out ≡ true → t'.out ≡ change w leased t.out → t'.room ≡ t.room → SoloHolds core' t'
+holds_taken link core core' t t' w conn n reused host h s k o r =
+    holds_here core core' t t' (change w leased t.out) h s.limits s.journal r o
+    (tie_lease (state_at core) t.out core.taken core'.taken w h.tied k s.taken)
+
+stage_coming : (stage : Stage) → stage_standing stage ≡ NotComing → ⊥
+stage_coming Waiting e = cc
+stage_coming Granted e = cc
+stage_coming Dialing e = cc
+
+none_rows : (s : State) (w : ℕ) (c : Option ConnRow) (r : Option WantRow) → find (is_with w) s.conns ≡ c → find (wants_it w) s.wants ≡ r → stands_as c r ≡ NotComing → (find (wants_it w) s.wants ≡ None) × (find (is_with w) s.conns ≡ None)
+none_rows s w (Some c) r a b e = absurd (cc)
+none_rows s w None (Some r) a b e = absurd (stage_coming r.stage e)
+none_rows s w None None a b e = (b, a)
+
+not_coming_rows : (s : State) (w : ℕ) → standing s w ≡ NotComing → (find (wants_it w) s.wants ≡ None) × (find (is_with w) s.conns ≡ None)
+unfolding standing
+not_coming_rows s w e = none_rows s w (find (is_with w) s.conns) (find (wants_it w) s.wants) refl refl e
+
+pub holds_none : (core core' : CoreView) (t t' : TokensView) (w : ℕ) → SoloHolds core t → core' ≡ core → standing (state_at core) w ≡ NotComing → has_ticket w t.out ≡ true → t'.out ≡ change w without_ticket t.out → t'.room ≡ t.room → SoloHolds core' t'
+holds_none core core' t t' w h same st k o r =
+    let none = not_coming_rows (state_at core) w st in
+    rw same (holds_here core core t t' (change w without_ticket t.out) h refl refl r o
+    (tie_none (state_at core) t.out core.taken core.taken w h.tied none.0 none.1 k (λ v u. u)))
+
+stage_served : (stage : Stage) (row : ConnRow) → stage_standing stage ≡ Served row → ⊥
+stage_served Waiting row e = cc
+stage_served Granted row e = cc
+stage_served Dialing row e = cc
+
+served_by : (s : State) (w : ℕ) (row : ConnRow) (c : Option ConnRow) (r : Option WantRow) → find (is_with w) s.conns ≡ c → stands_as c r ≡ Served row → find (is_with w) s.conns ≡ Some row
+served_by s w row (Some c) r a e = let same : c ≡ row = cc in a ∙ ap (λ x. Some x) same
+served_by s w row None (Some r) a e = absurd (stage_served r.stage row e)
+served_by s w row None None a e = absurd (cc)
+
+served_row : (s : State) (w : ℕ) (row : ConnRow) → standing s w ≡ Served row → find (is_with w) s.conns ≡ Some row
+unfolding standing
+served_row s w row e = served_by s w row (find (is_with w) s.conns) (find (wants_it w) s.wants) refl e
+
+out_zero : (place : Place) (w caller : ℕ) → place ≡ Out w caller → OutBy 0 place → place ≡ Out w 0
+out_zero (Out v c) w caller e o = (let P : ℕ → Type 0 = λ n. Out v n ≡ Out w 0 in subst P (sym o) (let same : v ≡ w = cc in ap (λ n. Out n 0) same))
+out_zero (Idle a b) w caller e o = absurd (cc)
+
+pub row_is : (core : CoreView) (t : TokensView) (w : ℕ) (row : ConnRow) → SoloHolds core t → standing (state_at core) w ≡ Served row → row.place ≡ Out w 0
+row_is core t w row h st =
+    let f = served_row (state_at core) w row st in
+    let out = out_at w row (found_passes (is_with w) (state_at core).conns row f) in
+    out_zero row.place w out.0 out.1 (h.tied.own.conns row (found_among (is_with w) row (state_at core).conns f))
+
+pub row_numbered : (core : CoreView) (t : TokensView) (w : ℕ) (row : ConnRow) → SoloHolds core t → standing (state_at core) w ≡ Served row → find (has_number row.conn) (state_at core).conns ≡ Some row
+row_numbered core t w row h st = with_number (state_at core) t.out core.taken w row h.tied (served_row (state_at core) w row st)
+
+-- drop
+pub drop_enters : (core core' : CoreView) (n w : ℕ) (row : ConnRow) → find (has_number n) (state_at core).conns ≡ Some row → row.place ≡ Out w 0 → (s : Done core core' (call.Drop n)) → Enters core core' 0 (call.Drop n) s.outcome
+drop_enters core core' n w row f p s =
+    let was = drop_was core.limits (state_at core) s.caller n s.outcome s.enters.fits in
+    let same : was.row ≡ row = (let both = sym was.found ∙ f in cc) in
+    let place : Out was.place.0 s.caller ≡ Out w 0 = sym was.place.1 ∙ ap (λ (r : ConnRow). r.place) same ∙ p in
+    let zero_caller : s.caller ≡ 0 = cc in
+    let P : ℕ → Type 0 = λ m. Enters core core' m (call.Drop n) s.outcome in
+    subst P zero_caller s.enters
+
+pub holds_drop : (core core' : CoreView) (t t' : TokensView) (n w : ℕ) (row : ConnRow) → SoloHolds core t → find (has_number n) (state_at core).conns ≡ Some row → row.place ≡ Out w 0 → Done core core' (call.Drop n) → has_lease w t.out ≡ true → t'.out ≡ change w without_lease t.out → t'.room ≡ t.room → SoloHolds core' t'
+holds_drop core core' t t' n w row h f p s k o r =
+    let was = drop_was core.limits (state_at core) s.caller n s.outcome s.enters.fits in
+    let found = was.found in
+    let same = was.same in
+    let rows : was.row ≡ row = (let both = sym was.found ∙ f in cc) in
+    let place : was.row.place ≡ Out w 0 = ap (λ (x : ConnRow). x.place) rows ∙ p in
+    holds_after core core' t t' s.caller (call.Drop n) s.outcome (change w without_lease t.out) h s.enters r o
+    (rw same (tie_drop core.limits (state_at core) t.out core.taken core'.taken n w was.row h.tied found place k s.enters.taken))
+
+-- cancel
+out_caller : (place : Place) (w caller : ℕ) → place ≡ Out w caller → OutBy 0 place → caller ≡ 0
+out_caller (Out v c) w caller e o = (let same : c ≡ caller = cc in sym same ∙ o)
+out_caller (Idle a b) w caller e o = absurd (cc)
+
+cancel_zero : (core : CoreView) (t : TokensView) (w now caller : ℕ) (o : Outcome) → SoloHolds core t → CancelRowWas core.limits (state_at core) caller w o ⊎ CancelConnWas core.limits (state_at core) caller w now o → caller ≡ 0
+cancel_zero core t w now caller o h (inl was) = sym was.by ∙ h.tied.own.wants was.row (found_among (wants_it w) was.row (state_at core).wants was.found)
+cancel_zero core t w now caller o h (inr was) = out_caller was.row.place was.place.0 caller was.place.1 (h.tied.own.conns was.row (found_among (is_with w) was.row (state_at core).conns was.found))
+
+cancel_tied : (core core' : CoreView) (t : TokensView) (w now caller : ℕ) (o : Outcome) → SoloHolds core t → LeavesTaken core.taken core'.taken → has_ticket w t.out ≡ true → CancelRowWas core.limits (state_at core) caller w o ⊎ CancelConnWas core.limits (state_at core) caller w now o → Tied o.state (change w without_ticket t.out) core'.taken
+cancel_tied core core' t w now caller o h tk k (inl was) = let same = was.same in rw same (tie_cancel core.limits (state_at core) t.out core.taken core'.taken w was.row h.tied was.found k tk)
+cancel_tied core core' t w now caller o h tk k (inr was) =
+    let same = was.same in
+    let out = out_at w was.row (found_passes (is_with w) (state_at core).conns was.row was.found) in
+    rw same (tie_cancel_conn core.limits (state_at core) t.out core.taken core'.taken w now was.row out.0 h.tied was.found out.1 k tk)
+
+holds_put : {C : Type 0} (link : C → LinkView) (core core' : CoreView) (t t' : TokensView) (w now : ℕ) (close : Option C) → SoloHolds core t → DonePut link core core' (call.Cancel w now) close → has_ticket w t.out ≡ true → t'.out ≡ change w without_ticket t.out → t'.room ≡ t.room → SoloHolds core' t'
+holds_put link core core' t t' w now close h s k o r =
+    let was = cancel_was core.limits (state_at core) s.caller w now s.outcome s.enters.fits in
+    holds_after core core' t t' s.caller (call.Cancel w now) s.outcome (change w without_ticket t.out) h s.enters r o
+    (cancel_tied core core' t w now s.caller s.outcome h s.enters.taken k was)
+
+holds_cancel_by : {C : Type 0} (link : C → LinkView) (core core' : CoreView) (t t' : TokensView) (w now : ℕ) (close : Option C) (st : Standing) → standing (state_at core) w ≡ st → SoloHolds core t → CancelDone link core core' w now close st → has_ticket w t.out ≡ true → t'.out ≡ change w without_ticket t.out → t'.room ≡ t.room → SoloHolds core' t'
+holds_cancel_by link core core' t t' w now close (Served row) e h d k o r = holds_put link core core' t t' w now close h d k o r
+holds_cancel_by link core core' t t' w now close MayDial e h d k o r = holds_put link core core' t t' w now close h d k o r
+holds_cancel_by link core core' t t' w now close NotServed e h d k o r = holds_put link core core' t t' w now close h d k o r
+holds_cancel_by link core core' t t' w now close NotComing e h d k o r = holds_none core core' t t' w h d.0 e k o r
+
+pub holds_cancel : {C : Type 0} (link : C → LinkView) (core core' : CoreView) (t t' : TokensView) (w now : ℕ) (close : Option C) → SoloHolds core t → CancelDone link core core' w now close (standing (state_at core) w) → has_ticket w t.out ≡ true → t'.out ≡ change w without_ticket t.out → t'.room ≡ t.room → SoloHolds core' t'
+holds_cancel link core core' t t' w now close h d k o r = holds_cancel_by link core core' t t' w now close (standing (state_at core) w) refl h d k o r
+
+put_made : {C : Type 0} (link : C → LinkView) (core core' : CoreView) (t t' : TokensView) (n : ℕ) (ticket : Ticket) (now : ℕ) (put : Put C) → SoloHolds core t → DonePut link core core' (call.Cancel ticket.want now) put.close → lent.CancelMade link (lent_of core t n) (lent_of core' t' n) [] ticket now put
+put_made link core core' t t' n ticket now put h s =
+    let was = cancel_was core.limits (state_at core) s.caller ticket.want now s.outcome s.enters.fits in
+    let P : ℕ → Type 0 = λ m. Enters core core' m (call.Cancel ticket.want now) s.outcome in
+    record {
+      outcome = s.outcome;
+      calls = calls core core' t t' n n (call.Cancel ticket.want now) s.outcome (subst P (cancel_zero core t ticket.want now s.caller s.outcome h was) s.enters);
+      close = s.closes;
+    }
+
+cancel_by : {C : Type 0} (link : C → LinkView) (core core' : CoreView) (t t' : TokensView) (n : ℕ) (ticket : Ticket) (now : ℕ) (put : Put C) (st : Standing) → SoloHolds core t → CancelDone link core core' ticket.want now put.close st → lent.CancelBy link (lent_of core t n) (lent_of core' t' n) [] ticket now put st
+cancel_by link core core' t t' n ticket now put (Served row) h d = put_made link core core' t t' n ticket now put h d
+cancel_by link core core' t t' n ticket now put MayDial h d = put_made link core core' t t' n ticket now put h d
+cancel_by link core core' t t' n ticket now put NotServed h d = put_made link core core' t t' n ticket now put h d
+cancel_by link core core' t t' n ticket now put NotComing h d = record {
+  looks = looks core core' t t' n n h.legal (ap (λ c. c.limits) d.0) (ap (λ c. c.journal) d.0);
+  close = d.1;
+}
+
+pub cancels : {C : Type 0} (link : C → LinkView) (core core' : CoreView) (t t' : TokensView) (n : ℕ) (ticket : Ticket) (now : ℕ) (put : Put C) → SoloHolds core t → CancelDone link core core' ticket.want now put.close (standing (state_at core) ticket.want) → t'.out ≡ change ticket.want without_ticket t.out → lent.CancelStep link (lent_of core t n) (lent_of core' t' n) ticket now put
+cancels link core core' t t' n ticket now put h d o = record {
+  others = [];
+  does = rw (append-nil core.journal) (cancel_by link core core' t t' n ticket now put (standing (state_at core) ticket.want) h d);
+  leaves = record { out = o; waits = refl };
+}
+
+-- opening
+nothing_owned : Owns 0 empty
+nothing_owned = record { wants = λ r m. absurd m; dials = λ r m. absurd m; conns = λ r m. absurd m }
+
+empty_weight : (g : Weigh) → weight g empty ≡ 0
+unfolding weight
+empty_weight g = refl
+
+empty_tied : Tied empty [] []
+empty_tied = record {
+  own = nothing_owned;
+  occ = λ w. omega (arith, empty_weight (occ_of w));
+  dia = λ w. omega (arith, empty_weight (dia_of w));
+  con = λ n. omega (arith, empty_weight (con_of n));
+  occ_new = λ w l. empty_weight (occ_of w);
+  dia_new = λ w l. empty_weight (dia_of w);
+  con_new = λ n l. empty_weight (con_of n);
+  out_new = λ w l. refl;
+  once = λ w. omega arith;
+  held = λ w. omega (arith, empty_weight (occ_of w));
+  dials = λ w. refl;
+  untaken = λ w t. refl;
+  taken_new = λ w l. refl;
+}
+
+pub solo_opened : (core : CoreView) (t : TokensView) (limits : Limits) → core.limits ≡ limits → core.journal ≡ [] → core.taken ≡ [] → t.out ≡ [] → 0 < limits.passes → limits.per_pass ≤ t.room → SoloHolds core t
+unfolding after IsLegal
+solo_opened core t limits l j k o p r = record {
+  tied = rw (j, k, o) empty_tied;
+  legal = rw j tt;
+  passes = rw l p;
+  room = rw l r;
+}
+
+-- what each call does
+pub want_made : (core core' : CoreView) (t t' : TokensView) (n host now v : ℕ) (ticket : Ticket) → CoreMade core core' 0 host now v → ticket.want ≡ v → ticket.host ≡ host → t'.out ≡ t.out ++ ticket_of v ∷ [] → lent.WantMade (lent_of core t n) (lent_of core' t' n) host now ticket
+want_made core core' t t' n host now v ticket m a b o = record {
+  others = [];
+  outcome = m.outcome;
+  calls = calls core core' t t' n n (call.Want host now) m.outcome m.enters;
+  room = rw (append-nil core.journal) m.has_room;
+  made = rw a m.is_made;
+  names = b;
+  leaves = record { out = rw a o; waits = refl };
+}
+
+pub want_expired : {C : Type 0} (link : C → LinkView) (core core' : CoreView) (t : TokensView) (n host now : ℕ) (conn : C) → CoreExpired link core core' 0 host now conn → lent.WantExpired link (lent_of core t n) (lent_of core' t n) host now conn
+want_expired link core core' t n host now conn m = record {
+  others = [];
+  outcome = m.outcome;
+  calls = calls core core' t t n n (call.Want host now) m.outcome m.enters;
+  room = rw (append-nil core.journal) m.has_room;
+  close = m.close;
+  leaves = record { out = refl; waits = refl };
+}
+
+full_after : (core core' : CoreView) → core' ≡ core → is_full core.limits core.journal ≡ true → is_full core'.limits core'.journal ≡ true
+full_after core core' e f = rw e f
+
+pub want_full : (core core' : CoreView) (t : TokensView) (n : ℕ) → IsLegal core.limits core.journal → core' ≡ core → is_full core.limits core.journal ≡ true → lent.WantFull (lent_of core t n) (lent_of core' t n)
+want_full core core' t n l e f = record {
+  others = [];
+  looks = looks core core' t t n n l (ap (λ c. c.limits) e) (ap (λ c. c.journal) e);
+  full = full_after core core' e f;
+  leaves = record { out = refl; waits = refl };
+}
+
+row_eq : (row : ConnRow) (number host link w : ℕ) (reused : Bool) → number ≡ row.conn → host ≡ row.host → link ≡ row.link → reused ≡ row.reused → row.place ≡ Out w 0 → row ≡ record { conn = number; host = host; link = link; reused = reused; place = Out w 0 }
+row_eq row number host link w reused a b c d p = rw (a, b, c, d, ← p) refl
+
+pub ask_taken : {C : Type 0} (link : C → LinkView) (core core' : CoreView) (t t' : TokensView) (n : ℕ) (ticket : Ticket) (conn : C) (number : ℕ) (reused : Bool) (host linked : ℕ) → SoloHolds core t → CoreTaken link core core' ticket.want conn number reused host → linked ≡ (link conn).number → has_ticket ticket.want t.out ≡ true → t'.out ≡ change ticket.want leased t.out → has_lease ticket.want t'.out ≡ true → lent.AskTaken link (lent_of core t n) (lent_of core' t' n) ticket (record { conn = conn; no = number; want = ticket.want; host = host; link = linked; reused = reused })
+ask_taken link core core' t t' n ticket conn number reused host linked h m e k o le =
+    let place = row_is core t ticket.want m.row h m.stands in
+    let same : m.row ≡ record { conn = number; host = host; link = linked; reused = reused; place = Out ticket.want 0 } =
+    row_eq m.row number host linked ticket.want reused m.is_no m.is_host (e ∙ m.is_conn) m.is_reused place in
+    let found : find (has_number number) (state_at core).conns ≡ Some m.row = rw m.is_no (row_numbered core t ticket.want m.row h m.stands) in
+    record {
+      others = [];
+      looks = looks core core' t t' n n h.legal m.limits m.journal;
+      stands = rw (append-nil core.journal) (m.stands ∙ ap (λ r. Served r) same);
+      want = refl;
+      lease = record { out = le; row = rw (m.limits, m.journal) (found ∙ ap (λ r. Some r) same); conn = sym e };
+      leaves = record { out = o; waits = refl };
+    }
+
+pub leases : (core : CoreView) (t : TokensView) (w : ℕ) → SoloHolds core t → has_ticket w t.out ≡ true → has_lease w (change w leased t.out) ≡ true
+leases core t w h k = leased_has w t.out h.tied.once k

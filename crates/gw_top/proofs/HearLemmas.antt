@@ -1,0 +1,105 @@
+-- Steps of hearing a client's request, over plain variables.
+use Rattle.std.proofs.Common.{◌≡◌, ◌≤◌, ◌<◌, ◌+◌, inl, inr, ℕ, List, [], ◌∷◌, ◌++◌, length, take, drop, Option, Bool, refl, ap, sym, ◌∙◌, subst, arith, append-nil, append_assoc, length-append}
+use Rattle.std.proofs.lemmas.Bool.{eq-eqb}
+use Rattle.std.proofs.lemmas.Grind.{flat_map-append}
+use Rattle.std.proofs.lemmas.List.{take-append-drop}
+use Rattle.std.proofs.lemmas.List.Elements.{All-push, All-nil}
+use Rattle.gw_wire.specs.declared.values.Act.{Act}
+use Rattle.gw_wire.specs.declared.values.Act.TheVariants.{Read}
+use Rattle.gw_wire.specs.Acts.{Logs, read_of, bytes_read}
+use Rattle.gw_wire.specs.Link.{LinkView}
+use Rattle.gw_wire.specs.Stretch.{Told, Then, Acts}
+use Rattle.gw_wire.specs.Wire.{WireView}
+use Rattle.gw_wire.proofs.StretchLemmas.{Logs-none, Told-map, Told-then, Told-acts}
+use Rattle.gw_head.specs.declared.error.HeadError.{HeadError}
+use Rattle.gw_head.specs.declared.request.RequestHead.{RequestHead}
+use Rattle.gw_head.specs.Head.{RequestHeadOf, BadRequestHead}
+use Rattle.gw_head.specs.Stage.{Stage, Gives, Refuses, GoesOn as Undecided}
+use Rattle.gw_top.specs.declared.exchange.Request.TheVariants as request
+use Rattle.gw_top.specs.declared.waits.Heard.TheVariants as heard
+use Rattle.gw_top.specs.Hearing.{IsReadOf, Reads, Stops, HearsRequest, Hearing, IsRefusedRequest}
+use Rattle.gw_top.specs.declared.waits.Heard.{Heard}
+use Rattle.gw_top.specs.Waits.{HeardStep, GoesOn}
+use Rattle.gw_top.proofs.WaitLemmas.{later_then, link_then}
+
+pub reads_none : (k : ℕ) → Reads k [] []
+reads_none k = record { only = All-nil (IsReadOf k); all = refl }
+
+pub reads_more : (k : ℕ) (bytes piece : List ℕ) (acts : List Act) → Reads k bytes acts → Reads k (bytes ++ piece) (acts ++ Read k piece ∷ [])
+reads_more k bytes piece acts r = record {
+  only = All-push (IsReadOf k) acts (Read k piece) r.only (piece, refl);
+  all = flat_map-append (read_of k) acts (Read k piece ∷ []) ∙ ap (λ a. a ++ bytes_read k (Read k piece ∷ [])) r.all
+      ∙ ap (λ b. bytes ++ b) (rw (eq-eqb k k refl) (append-nil piece));
+}
+
+pub told_none : (log : Option (List Act)) (k : ℕ) → Told log log (Reads k [])
+told_none log k = Told-map log log (Acts []) (Reads k []) (λ l e. rw e (reads_none k)) (Told-acts log log [] (Logs-none log))
+
+pub told_piece : (old mid new : Option (List Act)) (k : ℕ) (stream piece : List ℕ) → Told old mid (Reads k stream) → Logs mid new (Read k piece ∷ [])
+    → Told old new (Reads k (stream ++ piece))
+told_piece old mid new k stream piece told logs =
+    Told-map old new (Then (Reads k stream) (Acts (Read k piece ∷ []))) (Reads k (stream ++ piece))
+    (λ l p. rw (p.2, p.4) (reads_more k stream piece p.0 p.3))
+    (Told-then old mid new (Reads k stream) (Acts (Read k piece ∷ [])) told (Told-acts mid new (Read k piece ∷ []) logs))
+
+-- one more piece of the stream
+pub piece_heard : (old : Option (List Act)) (mid new : WireView) (k pieces n : ℕ) (at to : LinkView) (stream buffer : List ℕ) → at.number ≡ k
+    → Hearing k pieces old mid.log stream → HeardStep mid new at to buffer (heard.Got n) → Told old new.log (Reads k (stream ++ take n buffer))
+piece_heard old mid new k pieces n at to stream buffer is h t =
+    let logs : Logs mid.log new.log (Read k (take n buffer) ∷ []) = rw (← is) t.log in
+    told_piece old mid.log new.log k stream (take n buffer) h.log logs
+
+pub head_heard : (old new : Option (List Act)) (k used : ℕ) (stream piece : List ℕ) (head : RequestHead) (stage : Stage)
+    → Told old new (Reads k (stream ++ piece)) → Gives RequestHeadOf stream piece used head stage → Told old new (HearsRequest k (request.Head head))
+head_heard old new k used stream piece head stage told g =
+    let all : stream ++ piece ≡ head.bytes ++ drop used piece =
+    rw g.is_head.kept (ap (λ p. stream ++ p) (sym (take-append-drop used piece)) ∙ sym (append_assoc stream (take used piece) (drop used piece))) in
+    let is_head : RequestHeadOf head.bytes head = let P : List ℕ → Type 0 = λ b. RequestHeadOf b head in subst P (sym g.is_head.kept) g.is_head in
+    Told-map old new (Reads k (stream ++ piece)) (HearsRequest k (request.Head head))
+    (λ l r. (drop used piece, is_head, (let P : List ℕ → Type 0 = λ b. Reads k b l in subst P all r))) told
+
+refused_by : (used : ℕ) (stream piece : List ℕ) (error : HeadError) (stage : Stage) → Refuses BadRequestHead stream piece used error stage
+    → IsRefusedRequest (stream ++ piece)
+refused_by used stream piece error stage r =
+    elim r.cause [
+      | inl c ↦ inl (
+        stream ++ take used piece,
+        drop used piece,
+        ap (λ p. stream ++ p) (sym (take-append-drop used piece)) ∙ sym (append_assoc stream (take used piece) (drop used piece)),
+        (let P : HeadError → Type 0 = λ e. BadRequestHead (stream ++ take used piece) e in subst P c.1.malformed c.1),
+      )
+      | inr c ↦ inr c.0
+    ]
+
+pub refusal_heard : (old new : Option (List Act)) (k used : ℕ) (stream piece : List ℕ) (error : HeadError) (stage : Stage)
+    → Told old new (Reads k (stream ++ piece)) → Refuses BadRequestHead stream piece used error stage → Told old new (HearsRequest k request.Refused)
+refusal_heard old new k used stream piece error stage told r =
+    Told-map old new (Reads k (stream ++ piece)) (HearsRequest k request.Refused) (λ l p. (stream ++ piece, refused_by used stream piece error stage r, p)) told
+
+pub want_heard : (old new : Option (List Act)) (k : ℕ) (bytes : List ℕ) → Told old new (Reads k bytes) → Told old new (HearsRequest k request.NoMemory)
+want_heard old new k bytes told = Told-map old new (Reads k bytes) (HearsRequest k request.NoMemory) (λ l p. p.only) told
+
+-- the client said nothing more
+pub gone_heard : (old mid new : Option (List Act)) (k pieces : ℕ) (acts : List Act) (stream : List ℕ) (began : Bool)
+    → Hearing k pieces old mid stream → Logs mid new acts → Stops k acts → Told old new (HearsRequest k (request.Gone began))
+gone_heard old mid new k pieces acts stream began h logs stops =
+    Told-map old new (Then (Reads k stream) (Acts acts)) (HearsRequest k (request.Gone began))
+    (λ l p. (stream, h.undecided, (p.0, p.1, p.2, p.3, (let P : List Act → Type 0 = λ a. Stops k a in subst P (sym p.4) stops))))
+    (Told-then old mid new (Reads k stream) (Acts acts) h.log (Told-acts mid new acts logs))
+
+pub more_heard : (old new : Option (List Act)) (k pieces used : ℕ) (stream piece : List ℕ) (stage : Stage) → pieces ≤ length stream → 0 < length piece
+    → Told old new (Reads k (stream ++ piece)) → Undecided stream piece used stage → Hearing k (pieces + 1) old new (stream ++ piece)
+more_heard old new k pieces used stream piece stage some one told u = record {
+  undecided = u.undecided;
+  some = rw (length-append stream piece) (omega arith);
+  log = told;
+}
+
+-- one more wait
+pub goes_on : (old mid new : WireView) (first at to : LinkView) (buffer : List ℕ) (r : Heard) → GoesOn old mid first at
+    → HeardStep mid new at to buffer r → GoesOn old new first to
+goes_on old mid new first at to buffer r g t = record {
+  later = later_then old mid new g.later t.later;
+  link = link_then first at to g.link t.link;
+  fresh = t.fresh;
+}
