@@ -1,0 +1,4 @@
+pub mod Shape
+pub mod Matches
+pub mod Relation
+pub mod Comparison
