@@ -9,6 +9,7 @@ pub mod Standings
 pub mod TokenEdits
 pub mod Weights
 pub mod Owns
+pub mod Idling
 pub mod Inverts
 pub mod Ties
 pub mod TieCalls

@@ -2,6 +2,7 @@
 use Rattle.std.proofs.Common.{◌≡◌, ℕ, ◌<◌, ◌≤◌, ◌⊎◌, inl, inr, Bool, true, false, List, [], ◌∷◌, ◌++◌, Option, Some, None, refl, ap, sym, ◌∙◌, arith, cond, subst, append-nil}
 use Rattle.std.specs.List.{find}
 use Rattle.std.specs.Option.{IsSome}
+use Rattle.std.proofs.lemmas.List.Elements.{All-push, All-nil}
 use Rattle.std.proofs.lemmas.List.Sums.{sum_by-cons}
 use Rattle.gw_wire.specs.Link.{LinkView}
 use Rattle.gw_pool.specs.declared.limits.Limits.{Limits}
@@ -20,7 +21,7 @@ use Rattle.gw_pool.specs.declared.leases.Put.{Put}
 use Rattle.gw_pool.specs.Closes.{IsOf}
 use Rattle.gw_pool.specs.State.{State, empty, wants_it, dials_for, has_number, is_with}
 use Rattle.gw_pool.specs.Machine.{Outcome, want_step, Standing, Served, MayDial, NotServed, NotComing, standing, stands_as, stage_standing}
-use Rattle.gw_pool.specs.History.{IsLegal, after, is_full}
+use Rattle.gw_pool.specs.History.{IsLegal, AreBelow, after, is_full}
 use Rattle.gw_pool.specs.Shelf.{LeavesTaken}
 use Rattle.gw_pool.specs.Tokens.{TokensView, change, ticket_of, has_ticket, has_dial, has_lease, with_dial, without_dial, without_ticket, leased, without_lease}
 use Rattle.gw_pool.specs.Core.{CoreView, Enters, Started, Done, DonePut, CancelDone, state_at, WantMade as CoreMade, WantExpired as CoreExpired, AskTaken as CoreTaken}
@@ -38,18 +39,24 @@ use Rattle.gw_pool.proofs.TieWant.{tie_made, tie_expired, with_number}
 abbrev pub lent_of : CoreView → TokensView → ℕ → Lent
 lent_of core tokens waits = record { limits = core.limits; number = 0; seen = core.journal; mine = core.journal; out = tokens.out; waits = waits }
 
+-- an entry more is of a caller of the pool
+callers_push : (core core' : CoreView) (t : TokensView) (caller : ℕ) (asked : Call) (outcome : Outcome) → SoloHolds core t → caller ≡ 0 → Enters core core' caller asked outcome → AreBelow core'.limits.passes core'.journal
+callers_push core core' t caller asked outcome h z e =
+    rw (e.limits, e.journal) (All-push (λ entry. entry.caller < core.limits.passes) core.journal (lent.entry_of caller asked outcome.reply) h.callers (rw z h.passes))
+
 -- an entry is the caller's, and nobody else made one
-pub calls : (core core' : CoreView) (t t' : TokensView) (w w' : ℕ) (asked : Call) (outcome : Outcome) → Enters core core' 0 asked outcome → Calls (lent_of core t w) (lent_of core' t' w') [] asked outcome
-calls core core' t t' w w' asked outcome e = record {
-  meets = record { limits = e.limits; number = refl; foreign = refl; legal = e.legal };
+pub calls : (core core' : CoreView) (t t' : TokensView) (w w' : ℕ) (asked : Call) (outcome : Outcome) → SoloHolds core t → Enters core core' 0 asked outcome → Calls (lent_of core t w) (lent_of core' t' w') [] asked outcome
+calls core core' t t' w w' asked outcome h e = record {
+  meets = record { limits = e.limits; number = refl; foreign = refl; legal = e.legal; callers = callers_push core core' t 0 asked outcome h refl e };
   fits = rw (append-nil core.journal) e.fits;
+  state = rw e.journal (entered_state core.limits core.journal 0 asked outcome e.fits);
   seen = rw (append-nil core.journal) e.journal;
   mine = e.journal;
 }
 
-pub looks : (core core' : CoreView) (t t' : TokensView) (w w' : ℕ) → IsLegal core.limits core.journal → core'.limits ≡ core.limits → core'.journal ≡ core.journal → Looks (lent_of core t w) (lent_of core' t' w') []
-looks core core' t t' w w' l a b = record {
-  meets = record { limits = a; number = refl; foreign = refl; legal = rw (a, b) l };
+pub looks : (core core' : CoreView) (t t' : TokensView) (w w' : ℕ) → SoloHolds core t → core'.limits ≡ core.limits → core'.journal ≡ core.journal → Looks (lent_of core t w) (lent_of core' t' w') []
+looks core core' t t' w w' h a b = record {
+  meets = record { limits = a; number = refl; foreign = refl; legal = rw (a, b) h.legal; callers = rw (a, b) h.callers };
   seen = rw (append-nil core.journal) b;
   mine = b;
 }
@@ -61,11 +68,12 @@ at_outcome core core' caller asked outcome e = rw (e.limits, e.journal) (entered
 tied_after : (core core' : CoreView) (caller : ℕ) (asked : Call) (outcome : Outcome) (out : List Holding) (taken : List ℕ) → Enters core core' caller asked outcome → Tied outcome.state out taken → Tied (state_at core') out taken
 tied_after core core' caller asked outcome out taken e k = rw (at_outcome core core' caller asked outcome e) k
 
-holds_after : (core core' : CoreView) (t t' : TokensView) (caller : ℕ) (asked : Call) (outcome : Outcome) (out : List Holding) → SoloHolds core t → Enters core core' caller asked outcome → t'.room ≡ t.room → t'.out ≡ out → Tied outcome.state out core'.taken → SoloHolds core' t'
-holds_after core core' t t' caller asked outcome out h e r o k = record {
+holds_after : (core core' : CoreView) (t t' : TokensView) (caller : ℕ) (asked : Call) (outcome : Outcome) (out : List Holding) → SoloHolds core t → caller ≡ 0 → Enters core core' caller asked outcome → t'.room ≡ t.room → t'.out ≡ out → Tied outcome.state out core'.taken → SoloHolds core' t'
+holds_after core core' t t' caller asked outcome out h z e r o k = record {
   tied = rw o (tied_after core core' caller asked outcome out core'.taken e k);
   legal = e.legal;
   passes = rw e.limits h.passes;
+  callers = callers_push core core' t caller asked outcome h z e;
   room = rw (e.limits, r) h.room;
 }
 
@@ -74,6 +82,7 @@ holds_here core core' t t' out h a b r o k = record {
   tied = rw (a, b, o) k;
   legal = rw (a, b) h.legal;
   passes = rw a h.passes;
+  callers = rw (a, b) h.callers;
   room = rw (a, r) h.room;
 }
 
@@ -81,7 +90,7 @@ holds_here core core' t t' out h a b r o k = record {
 pub holds_made : (core core' : CoreView) (t t' : TokensView) (host now v : ℕ) → SoloHolds core t → CoreMade core core' 0 host now v → t'.out ≡ t.out ++ ticket_of v ∷ [] → t'.room ≡ t.room → SoloHolds core' t'
 holds_made core core' t t' host now v h m o r =
     let same = want_was core.limits (state_at core) 0 host now m.outcome m.enters.fits in
-    holds_after core core' t t' 0 (call.Want host now) m.outcome (t.out ++ ticket_of v ∷ []) h m.enters r o
+    holds_after core core' t t' 0 (call.Want host now) m.outcome (t.out ++ ticket_of v ∷ []) h refl m.enters r o
     (rw same (tie_made core.limits (state_at core) t.out core.taken core'.taken host now v h.tied (rw same at m.is_made) m.enters.taken))
 
 gone_some : {C : Type 0} (link : C → LinkView) (conn : C) (o : Option ConnRow) → IsOf link conn o → (r : ConnRow) × (o ≡ Some r)
@@ -93,7 +102,7 @@ holds_expired link core core' t host now conn h m =
     let same = want_was core.limits (state_at core) 0 host now m.outcome m.enters.fits in
     let gone = gone_some link conn m.outcome.gone m.close in
     let gone' : (want_step core.limits (state_at core) 0 host now).gone ≡ Some gone.0 = sym (ap (λ (o : Outcome). o.gone) same) ∙ gone.1 in
-    holds_after core core' t t 0 (call.Want host now) m.outcome t.out h m.enters refl refl
+    holds_after core core' t t 0 (call.Want host now) m.outcome t.out h refl m.enters refl refl
     (rw same (tie_expired core.limits (state_at core) t.out core.taken core'.taken host now gone.0 h.tied gone' m.enters.taken))
 
 -- start
@@ -109,7 +118,7 @@ pub holds_start : (core core' : CoreView) (t t' : TokensView) (w : ℕ) → Solo
 holds_start core core' t t' w h s k o r =
     let was = start_was core.limits (state_at core) s.caller w s.outcome s.enters.fits in
     let same = was.same in
-    holds_after core core' t t' s.caller (call.Start w) s.outcome (change w with_dial t.out) h s.enters r o
+    holds_after core core' t t' s.caller (call.Start w) s.outcome (change w with_dial t.out) h (start_zero core core' t w h s) s.enters r o
     (rw same (tie_start (state_at core) t.out core.taken core'.taken w was.row h.tied was.found was.granted k s.enters.taken))
 
 -- dialed and failed
@@ -128,30 +137,35 @@ some_dial w xs (Some r) f e = refl
 pub has_dial_row : (core : CoreView) (t : TokensView) (w : ℕ) → SoloHolds core t → has_dial w t.out ≡ true → IsSome (find (dials_for w) (state_at core).dials)
 has_dial_row core t w h k = some_dial w (state_at core).dials (find (dials_for w) (state_at core).dials) refl (h.tied.dials w ∙ ap bit k)
 
-pub failed_enters : (core core' : CoreView) (t : TokensView) (w : ℕ) → SoloHolds core t → (s : Done core core' (call.DialFailed w)) → Enters core core' 0 (call.DialFailed w) s.outcome
-failed_enters core core' t w h s =
+failed_zero : (core core' : CoreView) (t : TokensView) (w : ℕ) → SoloHolds core t → (s : Done core core' (call.DialFailed w)) → s.caller ≡ 0
+failed_zero core core' t w h s =
     let was = failed_was core.limits (state_at core) s.caller w s.outcome s.enters.fits in
-    let P : ℕ → Type 0 = λ n. Enters core core' n (call.DialFailed w) s.outcome in
-    subst P (sym was.by ∙ h.tied.own.dials was.row (found_among (dials_for w) was.row (state_at core).dials was.found)) s.enters
+    sym was.by ∙ h.tied.own.dials was.row (found_among (dials_for w) was.row (state_at core).dials was.found)
+
+pub failed_enters : (core core' : CoreView) (t : TokensView) (w : ℕ) → SoloHolds core t → (s : Done core core' (call.DialFailed w)) → Enters core core' 0 (call.DialFailed w) s.outcome
+failed_enters core core' t w h s = let P : ℕ → Type 0 = λ n. Enters core core' n (call.DialFailed w) s.outcome in subst P (failed_zero core core' t w h s) s.enters
 
 pub holds_failed : (core core' : CoreView) (t t' : TokensView) (w : ℕ) → SoloHolds core t → Done core core' (call.DialFailed w) → has_dial w t.out ≡ true → t'.out ≡ change w without_dial t.out → t'.room ≡ t.room → SoloHolds core' t'
 holds_failed core core' t t' w h s k o r =
     let was = failed_was core.limits (state_at core) s.caller w s.outcome s.enters.fits in
     let same = was.same in
-    holds_after core core' t t' s.caller (call.DialFailed w) s.outcome (change w without_dial t.out) h s.enters r o
+    holds_after core core' t t' s.caller (call.DialFailed w) s.outcome (change w without_dial t.out) h (failed_zero core core' t w h s) s.enters r o
     (rw same (tie_failed core.limits (state_at core) t.out core.taken core'.taken w was.row h.tied was.found k s.enters.taken))
+
+dialed_zero : {C : Type 0} (link : C → LinkView) (core core' : CoreView) (t : TokensView) (w number now : ℕ) (close : Option C) → SoloHolds core t → (s : DonePut link core core' (call.Dialed w number now) close) → s.caller ≡ 0
+dialed_zero link core core' t w number now close h s =
+    let was = dialed_was core.limits (state_at core) s.caller w number now s.outcome s.enters.fits in
+    sym was.by ∙ h.tied.own.dials was.row (found_among (dials_for w) was.row (state_at core).dials was.found)
 
 pub dialed_enters : {C : Type 0} (link : C → LinkView) (core core' : CoreView) (t : TokensView) (w number now : ℕ) (close : Option C) → SoloHolds core t → (s : DonePut link core core' (call.Dialed w number now) close) → Enters core core' 0 (call.Dialed w number now) s.outcome
 dialed_enters link core core' t w number now close h s =
-    let was = dialed_was core.limits (state_at core) s.caller w number now s.outcome s.enters.fits in
-    let P : ℕ → Type 0 = λ n. Enters core core' n (call.Dialed w number now) s.outcome in
-    subst P (sym was.by ∙ h.tied.own.dials was.row (found_among (dials_for w) was.row (state_at core).dials was.found)) s.enters
+    let P : ℕ → Type 0 = λ n. Enters core core' n (call.Dialed w number now) s.outcome in subst P (dialed_zero link core core' t w number now close h s) s.enters
 
 pub holds_dialed : {C : Type 0} (link : C → LinkView) (core core' : CoreView) (t t' : TokensView) (w number now : ℕ) (close : Option C) → SoloHolds core t → DonePut link core core' (call.Dialed w number now) close → has_dial w t.out ≡ true → t'.out ≡ change w without_dial t.out → t'.room ≡ t.room → SoloHolds core' t'
 holds_dialed link core core' t t' w number now close h s k o r =
     let was = dialed_was core.limits (state_at core) s.caller w number now s.outcome s.enters.fits in
     let same = was.same in
-    holds_after core core' t t' s.caller (call.Dialed w number now) s.outcome (change w without_dial t.out) h s.enters r o
+    holds_after core core' t t' s.caller (call.Dialed w number now) s.outcome (change w without_dial t.out) h (dialed_zero link core core' t w number now close h s) s.enters r o
     (rw same (tie_dialed core.limits (state_at core) t.out core.taken core'.taken w number now was.row h.tied was.found k s.enters.taken))
 
 -- ask
@@ -208,14 +222,15 @@ pub row_numbered : (core : CoreView) (t : TokensView) (w : ℕ) (row : ConnRow) 
 row_numbered core t w row h st = with_number (state_at core) t.out core.taken w row h.tied (served_row (state_at core) w row st)
 
 -- drop
-pub drop_enters : (core core' : CoreView) (n w : ℕ) (row : ConnRow) → find (has_number n) (state_at core).conns ≡ Some row → row.place ≡ Out w 0 → (s : Done core core' (call.Drop n)) → Enters core core' 0 (call.Drop n) s.outcome
-drop_enters core core' n w row f p s =
+drop_zero : (core core' : CoreView) (n w : ℕ) (row : ConnRow) → find (has_number n) (state_at core).conns ≡ Some row → row.place ≡ Out w 0 → (s : Done core core' (call.Drop n)) → s.caller ≡ 0
+drop_zero core core' n w row f p s =
     let was = drop_was core.limits (state_at core) s.caller n s.outcome s.enters.fits in
     let same : was.row ≡ row = (let both = sym was.found ∙ f in cc) in
     let place : Out was.place.0 s.caller ≡ Out w 0 = sym was.place.1 ∙ ap (λ (r : ConnRow). r.place) same ∙ p in
-    let zero_caller : s.caller ≡ 0 = cc in
-    let P : ℕ → Type 0 = λ m. Enters core core' m (call.Drop n) s.outcome in
-    subst P zero_caller s.enters
+    cc
+
+pub drop_enters : (core core' : CoreView) (n w : ℕ) (row : ConnRow) → find (has_number n) (state_at core).conns ≡ Some row → row.place ≡ Out w 0 → (s : Done core core' (call.Drop n)) → Enters core core' 0 (call.Drop n) s.outcome
+drop_enters core core' n w row f p s = let P : ℕ → Type 0 = λ m. Enters core core' m (call.Drop n) s.outcome in subst P (drop_zero core core' n w row f p s) s.enters
 
 pub holds_drop : (core core' : CoreView) (t t' : TokensView) (n w : ℕ) (row : ConnRow) → SoloHolds core t → find (has_number n) (state_at core).conns ≡ Some row → row.place ≡ Out w 0 → Done core core' (call.Drop n) → has_lease w t.out ≡ true → t'.out ≡ change w without_lease t.out → t'.room ≡ t.room → SoloHolds core' t'
 holds_drop core core' t t' n w row h f p s k o r =
@@ -224,7 +239,7 @@ holds_drop core core' t t' n w row h f p s k o r =
     let same = was.same in
     let rows : was.row ≡ row = (let both = sym was.found ∙ f in cc) in
     let place : was.row.place ≡ Out w 0 = ap (λ (x : ConnRow). x.place) rows ∙ p in
-    holds_after core core' t t' s.caller (call.Drop n) s.outcome (change w without_lease t.out) h s.enters r o
+    holds_after core core' t t' s.caller (call.Drop n) s.outcome (change w without_lease t.out) h (drop_zero core core' n w row f p s) s.enters r o
     (rw same (tie_drop core.limits (state_at core) t.out core.taken core'.taken n w was.row h.tied found place k s.enters.taken))
 
 -- cancel
@@ -246,7 +261,7 @@ cancel_tied core core' t w now caller o h tk k (inr was) =
 holds_put : {C : Type 0} (link : C → LinkView) (core core' : CoreView) (t t' : TokensView) (w now : ℕ) (close : Option C) → SoloHolds core t → DonePut link core core' (call.Cancel w now) close → has_ticket w t.out ≡ true → t'.out ≡ change w without_ticket t.out → t'.room ≡ t.room → SoloHolds core' t'
 holds_put link core core' t t' w now close h s k o r =
     let was = cancel_was core.limits (state_at core) s.caller w now s.outcome s.enters.fits in
-    holds_after core core' t t' s.caller (call.Cancel w now) s.outcome (change w without_ticket t.out) h s.enters r o
+    holds_after core core' t t' s.caller (call.Cancel w now) s.outcome (change w without_ticket t.out) h (cancel_zero core t w now s.caller s.outcome h was) s.enters r o
     (cancel_tied core core' t w now s.caller s.outcome h s.enters.taken k was)
 
 holds_cancel_by : {C : Type 0} (link : C → LinkView) (core core' : CoreView) (t t' : TokensView) (w now : ℕ) (close : Option C) (st : Standing) → standing (state_at core) w ≡ st → SoloHolds core t → CancelDone link core core' w now close st → has_ticket w t.out ≡ true → t'.out ≡ change w without_ticket t.out → t'.room ≡ t.room → SoloHolds core' t'
@@ -264,7 +279,7 @@ put_made link core core' t t' n ticket now put h s =
     let P : ℕ → Type 0 = λ m. Enters core core' m (call.Cancel ticket.want now) s.outcome in
     record {
       outcome = s.outcome;
-      calls = calls core core' t t' n n (call.Cancel ticket.want now) s.outcome (subst P (cancel_zero core t ticket.want now s.caller s.outcome h was) s.enters);
+      calls = calls core core' t t' n n (call.Cancel ticket.want now) s.outcome h (subst P (cancel_zero core t ticket.want now s.caller s.outcome h was) s.enters);
       close = s.closes;
     }
 
@@ -273,7 +288,7 @@ cancel_by link core core' t t' n ticket now put (Served row) h d = put_made link
 cancel_by link core core' t t' n ticket now put MayDial h d = put_made link core core' t t' n ticket now put h d
 cancel_by link core core' t t' n ticket now put NotServed h d = put_made link core core' t t' n ticket now put h d
 cancel_by link core core' t t' n ticket now put NotComing h d = record {
-  looks = looks core core' t t' n n h.legal (ap (λ c. c.limits) d.0) (ap (λ c. c.journal) d.0);
+  looks = looks core core' t t' n n h (ap (λ c. c.limits) d.0) (ap (λ c. c.journal) d.0);
   close = d.1;
 }
 
@@ -315,26 +330,27 @@ solo_opened core t limits l j k o p r = record {
   tied = rw (j, k, o) empty_tied;
   legal = rw j tt;
   passes = rw l p;
+  callers = rw j (All-nil (λ entry. entry.caller < core.limits.passes));
   room = rw l r;
 }
 
 -- what each call does
-pub want_made : (core core' : CoreView) (t t' : TokensView) (n host now v : ℕ) (ticket : Ticket) → CoreMade core core' 0 host now v → ticket.want ≡ v → ticket.host ≡ host → t'.out ≡ t.out ++ ticket_of v ∷ [] → lent.WantMade (lent_of core t n) (lent_of core' t' n) host now ticket
-want_made core core' t t' n host now v ticket m a b o = record {
+pub want_made : (core core' : CoreView) (t t' : TokensView) (n host now v : ℕ) (ticket : Ticket) → SoloHolds core t → CoreMade core core' 0 host now v → ticket.want ≡ v → ticket.host ≡ host → t'.out ≡ t.out ++ ticket_of v ∷ [] → lent.WantMade (lent_of core t n) (lent_of core' t' n) host now ticket
+want_made core core' t t' n host now v ticket h m a b o = record {
   others = [];
   outcome = m.outcome;
-  calls = calls core core' t t' n n (call.Want host now) m.outcome m.enters;
+  calls = calls core core' t t' n n (call.Want host now) m.outcome h m.enters;
   room = rw (append-nil core.journal) m.has_room;
   made = rw a m.is_made;
   names = b;
   leaves = record { out = rw a o; waits = refl };
 }
 
-pub want_expired : {C : Type 0} (link : C → LinkView) (core core' : CoreView) (t : TokensView) (n host now : ℕ) (conn : C) → CoreExpired link core core' 0 host now conn → lent.WantExpired link (lent_of core t n) (lent_of core' t n) host now conn
-want_expired link core core' t n host now conn m = record {
+pub want_expired : {C : Type 0} (link : C → LinkView) (core core' : CoreView) (t : TokensView) (n host now : ℕ) (conn : C) → SoloHolds core t → CoreExpired link core core' 0 host now conn → lent.WantExpired link (lent_of core t n) (lent_of core' t n) host now conn
+want_expired link core core' t n host now conn h m = record {
   others = [];
   outcome = m.outcome;
-  calls = calls core core' t t n n (call.Want host now) m.outcome m.enters;
+  calls = calls core core' t t n n (call.Want host now) m.outcome h m.enters;
   room = rw (append-nil core.journal) m.has_room;
   close = m.close;
   leaves = record { out = refl; waits = refl };
@@ -343,10 +359,10 @@ want_expired link core core' t n host now conn m = record {
 full_after : (core core' : CoreView) → core' ≡ core → is_full core.limits core.journal ≡ true → is_full core'.limits core'.journal ≡ true
 full_after core core' e f = rw e f
 
-pub want_full : (core core' : CoreView) (t : TokensView) (n : ℕ) → IsLegal core.limits core.journal → core' ≡ core → is_full core.limits core.journal ≡ true → lent.WantFull (lent_of core t n) (lent_of core' t n)
-want_full core core' t n l e f = record {
+pub want_full : (core core' : CoreView) (t : TokensView) (n : ℕ) → SoloHolds core t → core' ≡ core → is_full core.limits core.journal ≡ true → lent.WantFull (lent_of core t n) (lent_of core' t n)
+want_full core core' t n h e f = record {
   others = [];
-  looks = looks core core' t t n n l (ap (λ c. c.limits) e) (ap (λ c. c.journal) e);
+  looks = looks core core' t t n n h (ap (λ c. c.limits) e) (ap (λ c. c.journal) e);
   full = full_after core core' e f;
   leaves = record { out = refl; waits = refl };
 }
@@ -362,7 +378,7 @@ ask_taken link core core' t t' n ticket conn number reused host linked h m e k o
     let found : find (has_number number) (state_at core).conns ≡ Some m.row = rw m.is_no (row_numbered core t ticket.want m.row h m.stands) in
     record {
       others = [];
-      looks = looks core core' t t' n n h.legal m.limits m.journal;
+      looks = looks core core' t t' n n h m.limits m.journal;
       stands = rw (append-nil core.journal) (m.stands ∙ ap (λ r. Served r) same);
       want = refl;
       lease = record { out = le; row = rw (m.limits, m.journal) (found ∙ ap (λ r. Some r) same); conn = sym e };

@@ -1,5 +1,5 @@
 -- Histories of the pool: lists of entries, each of which fits the state that those before it lead to.
-use Rattle.std.specs.Prelude.{◌≡◌, ℕ, Bool, List, [], ◌∷◌, ◌==◌, ◌+◌, ◌*◌, nat_lt, length, filter, sum_by, Option, Some, None, option_map}
+use Rattle.std.specs.Prelude.{◌≡◌, ℕ, Bool, List, [], ◌∷◌, ◌==◌, ◌<◌, ◌+◌, ◌*◌, nat_lt, length, filter, sum_by, All, Option, Some, None, option_map}
 use Rattle.gw_pool.specs.declared.limits.Limits.{Limits}
 use Rattle.gw_pool.specs.declared.entry.Entry.{Entry}
 use Rattle.gw_pool.specs.declared.entry.Reply.{Reply}
@@ -37,6 +37,10 @@ after limits history = after_from limits empty history
 -- the entries of one caller
 abbrev pub mine : List Entry → ℕ → List Entry
 mine history caller = filter (λ entry. entry.caller == caller) history
+
+-- each entry's caller is one of so many, which are numbered from 0
+abbrev pub AreBelow : ℕ → List Entry → Type 0
+AreBelow callers history = All (λ entry. entry.caller < callers) history
 
 -- how many entries the rows of a state can still make, at most
 unfoldable pub room : State → ℕ

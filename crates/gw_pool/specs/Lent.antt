@@ -24,7 +24,7 @@ use Rattle.gw_pool.specs.Closes.{IsOf, Closes}
 use Rattle.gw_pool.specs.State.{State, has_number}
 use Rattle.gw_pool.specs.Tokens.{has_lease, change, ticket_of, with_dial, without_dial, without_ticket, leased, without_lease}
 use Rattle.gw_pool.specs.Machine.{Outcome, step, Standing, Served, MayDial, NotServed, NotComing, standing}
-use Rattle.gw_pool.specs.History.{IsLegal, after, mine, is_full}
+use Rattle.gw_pool.specs.History.{IsLegal, AreBelow, after, mine, is_full}
 
 -- what contracts see of it: `seen` is the history that the caller knows, `mine` its own entries in it, `out` the wants
 -- whose tokens were handed out and not taken back
@@ -37,12 +37,13 @@ pub record Lent : Type 0 where
   pub waits : ℕ
 
 -- What stays in every call: the limits and the caller's number. What the caller knew before, it knows still: since
--- then other callers made the entries `others`, and none else.
+-- then other callers made the entries `others`, and none else. What it knows is legal and of the pool's callers.
 pub record Meets (old new : Lent) (others : List Entry) : Type 0 where
   pub limits : new.limits ≡ old.limits
   pub number : new.number ≡ old.number
   pub foreign : mine others old.number ≡ []
   pub legal : IsLegal new.limits new.seen
+  pub callers : AreBelow new.limits.passes new.seen
 
 -- the history that a call meets, and the state there
 abbrev pub met : Lent → List Entry → List Entry
@@ -54,10 +55,11 @@ met_state old others = after old.limits (old.seen ++ others)
 abbrev pub entry_of : ℕ → Call → Reply → Entry
 entry_of caller asked answer = record { caller = caller; call = asked; reply = answer }
 
--- a call that makes one entry, which is the machine's
+-- a call that makes one entry, which is the machine's, and leads to the machine's next state
 pub record Calls (old new : Lent) (others : List Entry) (asked : Call) (outcome : Outcome) : Type 0 where
   pub meets : Meets old new others
   pub fits : step old.limits (met_state old others) old.number asked ≡ Some outcome
+  pub state : after old.limits new.seen ≡ outcome.state
   pub seen : new.seen ≡ met old others ++ entry_of old.number asked outcome.reply ∷ []
   pub mine : new.mine ≡ old.mine ++ entry_of old.number asked outcome.reply ∷ []
 

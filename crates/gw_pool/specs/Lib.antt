@@ -3,6 +3,7 @@ pub mod State
 pub mod Offer
 pub mod Machine
 pub mod History
+pub mod Idle
 pub mod Shelf
 pub mod Closes
 pub mod Rows

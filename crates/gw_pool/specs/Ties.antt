@@ -10,7 +10,7 @@ use Rattle.gw_pool.specs.declared.rows.WantRow.{WantRow}
 use Rattle.gw_pool.specs.declared.rows.ConnRow.{ConnRow}
 use Rattle.gw_pool.specs.declared.rows.DialRow.{DialRow}
 use Rattle.gw_pool.specs.State.{State}
-use Rattle.gw_pool.specs.History.{IsLegal, after}
+use Rattle.gw_pool.specs.History.{IsLegal, AreBelow, after}
 use Rattle.gw_pool.specs.Shelf.{is_taken}
 use Rattle.gw_pool.specs.Core.{CoreView}
 use Rattle.gw_pool.specs.Tokens.{TokensView, names, has_ticket, has_dial, has_lease}
@@ -110,4 +110,5 @@ pub record SoloHolds (core : CoreView) (tokens : TokensView) : Type 0 where
   pub tied : Tied (after core.limits core.journal) tokens.out core.taken
   pub legal : IsLegal core.limits core.journal
   pub passes : 0 < core.limits.passes
+  pub callers : AreBelow core.limits.passes core.journal
   pub room : core.limits.per_pass ≤ tokens.room

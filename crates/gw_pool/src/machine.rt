@@ -1,11 +1,12 @@
 //! The pool's machine over its rows: one function for each case of the definition.
 
-ghost use Rattle.std.specs.Prelude.{◌≡◌, ◌<◌, ◌≤◌, ◌+◌, ◌^◌, None, Some, false, find, nat_lt, IfSome, length, OnSome, vec_len, vec_capacity, option_map, ◌↔◌, true};
+ghost use Rattle.std.specs.Prelude.{◌≡◌, ◌<◌, ◌≤◌, ◌+◌, ◌^◌, ◌++◌, None, Some, false, find, nat_lt, map, IfSome, length, OnSome, vec_len, vec_capacity, option_map, ◌↔◌, true};
 ghost use Rattle.gw_pool.specs.Places.{is_idle, since_of};
 ghost use Rattle.gw_pool.specs.State.{is_free, is_expired, take_newest, take_oldest, least_want, least_waiting, wants_it, is_with, dials_for};
 ghost use Rattle.gw_pool.specs.Offer.{grant_to, grant, evict, rest, freed, offer_to, offer_conn};
 ghost use Rattle.gw_pool.specs.Machine.{want_new, want_idle, want_by, want_step, start_row, dialed_conn, dialed_to, dialed_row, failed_to, failed_row, cancel_row, cancel_conn, drop_row};
 ghost use Rattle.gw_pool.specs.History.{room};
+ghost use Rattle.gw_pool.specs.Idle.{idle_rows};
 ghost use Rattle.gw_pool.specs.Rows.{state_of, HasRoom, Keeps};
 ghost use Rattle.gw_pool.specs.Shelf.{resting_row, is_lent, IsKept};
 ghost use Rattle.gw_pool.specs.Closes.{Closes};
@@ -562,6 +563,7 @@ impl<C: Link> Rows<C> {
     /// Moves the idle connections behind others, the least recently idle first.
     pub fn empty_into(&mut self, idle: &mut Vec<C>)
         requires { vec_len idle.old + length self.old.conns.rows ≤ vec_capacity idle.old }
+        ensures { map (λ c. (C.link c).number) idle.new.items ≡ map (λ c. (C.link c).number) idle.old.items ++ map (λ row. row.link) (idle_rows (state_of self.old)) }
     {
         while let Some(Resting { row: _, conn }) = self.take_oldest() {
             idle.push_reserved(conn);

@@ -1,8 +1,9 @@
 //! The pool over one list of entries, for callers by number.
 
-ghost use Rattle.std.specs.Prelude.{◌++◌, ◌∷◌, vec_len, vec_capacity, ◌≡◌, ◌<◌, ◌+◌, ◌^◌, ◌≤◌, [], true, false, length, IsSome, IfOk, IfErr, None, find};
+ghost use Rattle.std.specs.Prelude.{◌++◌, ◌∷◌, vec_len, vec_capacity, ◌≡◌, ◌<◌, ◌+◌, ◌^◌, ◌≤◌, [], true, false, length, IsSome, IfOk, IfErr, None, find, map};
 ghost use Rattle.gw_pool.specs.declared.entry.Call.TheVariants as call;
 ghost use Rattle.gw_pool.specs.State.{wants_it, is_with, dials_for, has_number};
+ghost use Rattle.gw_pool.specs.Idle.{idle_links};
 ghost use Rattle.gw_pool.specs.Shelf.{is_taken};
 ghost use Rattle.gw_pool.specs.Machine.{units, standing};
 ghost use Rattle.gw_pool.specs.Core.{CoreView, state_at, WantDone, AskDone, StartDone, Done as DoneBy, DonePut, CancelDone, Looks, IsOut, IsQuiet, entry_of};
@@ -241,11 +242,12 @@ impl<C: Link> PoolCore<C> {
         }
     }
 
-    /// Closes the pool, which has no want, no dial and no connection that is out. An error is want of memory and gives
-    /// the pool back as it was.
+    /// Closes the pool, which has no want, no dial and no connection that is out: its journal, and the idle
+    /// connections, the least recently idle first. An error is want of memory and gives the pool back as it was.
     pub fn close(mut self) -> Result<(Vec<Entry>, Vec<C>), PoolCore<C>>
         requires { IsQuiet (state_at self) }
         ensures journal { IfOk result (λ r. r.0.items ≡ self.journal) }
+        ensures idle { IfOk result (λ r. map (λ c. (C.link c).number) r.1.items ≡ idle_links self.limits self.journal) }
         ensures back { IfErr result (λ p. p ≡ self) }
     {
         match Vec::with_capacity(self.alloc, self.rows.conns.rows().len()) {

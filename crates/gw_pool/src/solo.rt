@@ -1,6 +1,8 @@
 //! The pool of a gateway with one caller.
 
-ghost use Rattle.std.specs.Prelude.{◌≡◌, ◌<◌, [], IfOk, IfErr};
+ghost use Rattle.std.specs.Prelude.{◌≡◌, ◌<◌, [], map, IfOk, IfErr};
+ghost use Rattle.gw_pool.specs.History.{IsLegal, AreBelow};
+ghost use Rattle.gw_pool.specs.Idle.{idle_links};
 ghost use Rattle.gw_pool.specs.Lent.{LeaseOf, DropStep};
 
 use crate::answers::{Closed, CoreAsk, CoreWant};
@@ -52,11 +54,15 @@ impl<C: Link> Solo<C> {
         })
     }
 
-    /// Closes the pool, none of whose tokens is out. An error is want of memory and gives the pool back as it was.
+    /// Closes the pool, none of whose tokens is out: its journal, and the idle connections, the least recently idle
+    /// first. An error is want of memory and gives the pool back as it was.
     pub fn close(self) -> Result<Closed<C>, Solo<C>>
         requires { self.out ≡ [] }
         ensures journal { IfOk result (λ c. c.journal.items ≡ self.seen) }
         ensures mine { IfOk result (λ c. c.journal.items ≡ self.mine) }
+        ensures legal { IfOk result (λ c. IsLegal self.limits c.journal.items) }
+        ensures callers { IfOk result (λ c. AreBelow self.limits.passes c.journal.items) }
+        ensures idle { IfOk result (λ c. map (λ conn. (C.link conn).number) c.idle.items ≡ idle_links self.limits self.seen) }
         ensures back { IfErr result (λ s. s ≡ self) }
     {
         let Solo { core, out, waits } = self;

@@ -1,6 +1,6 @@
--- Steps of hearing a client's request, over plain variables.
-use Rattle.std.proofs.Common.{◌≡◌, ◌≤◌, ◌<◌, ◌+◌, inl, inr, ℕ, List, [], ◌∷◌, ◌++◌, length, take, drop, Option, Bool, refl, ap, sym, ◌∙◌, subst, arith, append-nil, append_assoc, length-append}
-use Rattle.std.proofs.lemmas.Bool.{eq-eqb}
+-- Steps of hearing a link, over plain variables.
+use Rattle.std.proofs.Common.{◌≡◌, ◌≤◌, ◌<◌, ◌+◌, inl, inr, ℕ, zero, suc, List, [], ◌∷◌, ◌++◌, length, take, drop, Option, Bool, true, false, nat_lt, refl, ap, sym, ◌∙◌, subst, arith, append-nil, append_assoc, length-append}
+use Rattle.std.proofs.lemmas.Bool.{eq-eqb, lt-ltb}
 use Rattle.std.proofs.lemmas.Grind.{flat_map-append}
 use Rattle.std.proofs.lemmas.List.{take-append-drop}
 use Rattle.std.proofs.lemmas.List.Elements.{All-push, All-nil}
@@ -10,14 +10,14 @@ use Rattle.gw_wire.specs.Acts.{Logs, read_of, bytes_read}
 use Rattle.gw_wire.specs.Link.{LinkView}
 use Rattle.gw_wire.specs.Stretch.{Told, Then, Acts}
 use Rattle.gw_wire.specs.Wire.{WireView}
-use Rattle.gw_wire.proofs.StretchLemmas.{Logs-none, Told-map, Told-then, Told-acts}
+use Rattle.gw_wire.proofs.StretchLemmas.{Logs-none, Told-map, Told-then, Told-acts, Told-before_quiet}
 use Rattle.gw_head.specs.declared.error.HeadError.{HeadError}
 use Rattle.gw_head.specs.declared.request.RequestHead.{RequestHead}
 use Rattle.gw_head.specs.Head.{RequestHeadOf, BadRequestHead}
 use Rattle.gw_head.specs.Stage.{Stage, Gives, Refuses, GoesOn as Undecided}
-use Rattle.gw_top.specs.declared.exchange.Request.TheVariants as request
+use Rattle.gw_top.specs.declared.request.Request.TheVariants as request
 use Rattle.gw_top.specs.declared.waits.Heard.TheVariants as heard
-use Rattle.gw_top.specs.Hearing.{IsReadOf, Reads, Stops, HearsRequest, Hearing, IsRefusedRequest}
+use Rattle.gw_top.specs.Hearing.{IsReadOf, Reads, Breaks, Began, HearsRequest, Hearing, IsRefusedRequest}
 use Rattle.gw_top.specs.declared.waits.Heard.{Heard}
 use Rattle.gw_top.specs.Waits.{HeardStep, GoesOn}
 use Rattle.gw_top.proofs.WaitLemmas.{later_then, link_then}
@@ -43,17 +43,25 @@ told_piece old mid new k stream piece told logs =
     (Told-then old mid new (Reads k stream) (Acts (Read k piece ∷ [])) told (Told-acts mid new (Read k piece ∷ []) logs))
 
 -- one more piece of the stream
+pub more_told : (old : Option (List Act)) (mid new : WireView) (k n : ℕ) (at to : LinkView) (stream buffer : List ℕ) → at.number ≡ k
+    → Told old mid.log (Reads k stream) → HeardStep mid new at to buffer (heard.Got n) → Told old new.log (Reads k (stream ++ take n buffer))
+more_told old mid new k n at to stream buffer is told t =
+    let logs : Logs mid.log new.log (Read k (take n buffer) ∷ []) = rw (← is) t.log in
+    told_piece old mid.log new.log k stream (take n buffer) told logs
+
 pub piece_heard : (old : Option (List Act)) (mid new : WireView) (k pieces n : ℕ) (at to : LinkView) (stream buffer : List ℕ) → at.number ≡ k
     → Hearing k pieces old mid.log stream → HeardStep mid new at to buffer (heard.Got n) → Told old new.log (Reads k (stream ++ take n buffer))
-piece_heard old mid new k pieces n at to stream buffer is h t =
-    let logs : Logs mid.log new.log (Read k (take n buffer) ∷ []) = rw (← is) t.log in
-    told_piece old mid.log new.log k stream (take n buffer) h.log logs
+piece_heard old mid new k pieces n at to stream buffer is h t = more_told old mid new k n at to stream buffer is h.log t
+
+-- a head in front of what came behind it
+pub behind_head : (stream piece kept : List ℕ) (used : ℕ) → kept ≡ stream ++ take used piece → stream ++ piece ≡ kept ++ drop used piece
+behind_head stream piece kept used k =
+    rw k (ap (λ p. stream ++ p) (sym (take-append-drop used piece)) ∙ sym (append_assoc stream (take used piece) (drop used piece)))
 
 pub head_heard : (old new : Option (List Act)) (k used : ℕ) (stream piece : List ℕ) (head : RequestHead) (stage : Stage)
     → Told old new (Reads k (stream ++ piece)) → Gives RequestHeadOf stream piece used head stage → Told old new (HearsRequest k (request.Head head))
 head_heard old new k used stream piece head stage told g =
-    let all : stream ++ piece ≡ head.bytes ++ drop used piece =
-    rw g.is_head.kept (ap (λ p. stream ++ p) (sym (take-append-drop used piece)) ∙ sym (append_assoc stream (take used piece) (drop used piece))) in
+    let all : stream ++ piece ≡ head.bytes ++ drop used piece = behind_head stream piece head.bytes used g.is_head.kept in
     let is_head : RequestHeadOf head.bytes head = let P : List ℕ → Type 0 = λ b. RequestHeadOf b head in subst P (sym g.is_head.kept) g.is_head in
     Told-map old new (Reads k (stream ++ piece)) (HearsRequest k (request.Head head))
     (λ l r. (drop used piece, is_head, (let P : List ℕ → Type 0 = λ b. Reads k b l in subst P all r))) told
@@ -65,7 +73,7 @@ refused_by used stream piece error stage r =
       | inl c ↦ inl (
         stream ++ take used piece,
         drop used piece,
-        ap (λ p. stream ++ p) (sym (take-append-drop used piece)) ∙ sym (append_assoc stream (take used piece) (drop used piece)),
+        behind_head stream piece (stream ++ take used piece) used refl,
         (let P : HeadError → Type 0 = λ e. BadRequestHead (stream ++ take used piece) e in subst P c.1.malformed c.1),
       )
       | inr c ↦ inr c.0
@@ -76,21 +84,44 @@ pub refusal_heard : (old new : Option (List Act)) (k used : ℕ) (stream piece :
 refusal_heard old new k used stream piece error stage told r =
     Told-map old new (Reads k (stream ++ piece)) (HearsRequest k request.Refused) (λ l p. (stream ++ piece, refused_by used stream piece error stage r, p)) told
 
-pub want_heard : (old new : Option (List Act)) (k : ℕ) (bytes : List ℕ) → Told old new (Reads k bytes) → Told old new (HearsRequest k request.NoMemory)
-want_heard old new k bytes told = Told-map old new (Reads k bytes) (HearsRequest k request.NoMemory) (λ l p. p.only) told
+-- memory was wanting before a byte came, or where a whole head stood
+pub want_first : (log : Option (List Act)) (k : ℕ) → Told log log (HearsRequest k (request.NoMemory false))
+want_first log k = Told-map log log (Reads k []) (HearsRequest k (request.NoMemory false)) (λ l p. ([], refl, p)) (told_none log k)
+
+pub want_heard : (old new : Option (List Act)) (k : ℕ) (stream piece : List ℕ) → 0 < length piece → Told old new (Reads k (stream ++ piece))
+    → Told old new (HearsRequest k (request.NoMemory true))
+want_heard old new k stream piece one told =
+    Told-map old new (Reads k (stream ++ piece)) (HearsRequest k (request.NoMemory true))
+    (λ l p. (stream ++ piece, rw (length-append stream piece) (omega arith), p)) told
 
 -- the client said nothing more
-pub gone_heard : (old mid new : Option (List Act)) (k pieces : ℕ) (acts : List Act) (stream : List ℕ) (began : Bool)
-    → Hearing k pieces old mid stream → Logs mid new acts → Stops k acts → Told old new (HearsRequest k (request.Gone began))
-gone_heard old mid new k pieces acts stream began h logs stops =
+began_is : (pieces : ℕ) (stream : List ℕ) (began : Bool) → began ≡ nat_lt 0 pieces → (pieces ≡ 0 → stream ≡ []) → pieces ≤ length stream → Began began stream
+began_is zero stream began e n s = rw e (n refl)
+began_is (suc pieces) stream began e n s = rw (e ∙ lt-ltb 0 (suc pieces) (omega arith)) (omega arith)
+
+pub gone_heard : (old mid new : Option (List Act)) (k pieces : ℕ) (acts : List Act) (stream : List ℕ) (began : Bool) → began ≡ nat_lt 0 pieces
+    → Hearing k pieces old mid stream → Logs mid new acts → Breaks k acts → Told old new (HearsRequest k (request.Gone began))
+gone_heard old mid new k pieces acts stream began e h logs breaks =
     Told-map old new (Then (Reads k stream) (Acts acts)) (HearsRequest k (request.Gone began))
-    (λ l p. (stream, h.undecided, (p.0, p.1, p.2, p.3, (let P : List Act → Type 0 = λ a. Stops k a in subst P (sym p.4) stops))))
+    (λ l p. (
+      stream,
+      h.undecided,
+      began_is pieces stream began e h.none h.some,
+      (p.0, p.1, p.2, p.3, (let P : List Act → Type 0 = λ a. Breaks k a in subst P (sym p.4) breaks)),
+    ))
     (Told-then old mid new (Reads k stream) (Acts acts) h.log (Told-acts mid new acts logs))
+
+pub silent_heard : (old mid new : Option (List Act)) (k pieces : ℕ) (stream : List ℕ) (began : Bool) → began ≡ nat_lt 0 pieces
+    → Hearing k pieces old mid stream → Logs mid new [] → Told old new (HearsRequest k (request.Silent began))
+silent_heard old mid new k pieces stream began e h logs =
+    Told-map old new (Reads k stream) (HearsRequest k (request.Silent began))
+    (λ l p. (stream, h.undecided, began_is pieces stream began e h.none h.some, p)) (Told-before_quiet old mid new (Reads k stream) h.log logs)
 
 pub more_heard : (old new : Option (List Act)) (k pieces used : ℕ) (stream piece : List ℕ) (stage : Stage) → pieces ≤ length stream → 0 < length piece
     → Told old new (Reads k (stream ++ piece)) → Undecided stream piece used stage → Hearing k (pieces + 1) old new (stream ++ piece)
 more_heard old new k pieces used stream piece stage some one told u = record {
   undecided = u.undecided;
+  none = λ e. absurd (let no : ⊥ = omega arith in no);
   some = rw (length-append stream piece) (omega arith);
   log = told;
 }

@@ -1,3 +1,9 @@
+pub mod AddressLemmas
+pub mod AttemptLemmas
+pub mod ExchangeLemmas
 pub mod HearLemmas
+pub mod LeaseLemmas
+pub mod PoolLemmas
 pub mod RunLemmas
+pub mod TopLemmas
 pub mod WaitLemmas

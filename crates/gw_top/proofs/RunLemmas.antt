@@ -1,12 +1,27 @@
--- What is known of the only wire that a listener gave.
-use Rattle.std.proofs.Common.{◌≡◌, List, [], ◌∷◌, subst, true, arith}
-use Rattle.std.specs.List.{All}
-use Rattle.std.proofs.lemmas.List.Elements.{All-head, All-cons, All-nil}
+-- The run of a worker, client after client, over plain variables.
+use Rattle.std.proofs.Common.{◌≡◌, ℕ, ◌+◌, ◌-◌, ◌^◌, min, Bool, true, false, List, [], ◌∷◌, ◌++◌, cond, refl, ap, sym, ◌∙◌, subst, arith, append_assoc, append-nil}
+use Rattle.std.specs.List.{All, sum_by}
+use Rattle.std.proofs.lemmas.Grind.{flat_map-append}
+use Rattle.std.proofs.lemmas.List.Sums.{sum_by-append, sum_by-cons}
+use Rattle.std.proofs.lemmas.List.Elements.{All-head}
+use Rattle.gw_wire.specs.declared.traits.Accept.TheVariants as accept
+use Rattle.gw_wire.specs.declared.values.Act.{Act}
+use Rattle.gw_wire.specs.declared.values.Act.TheVariants.{Accepted, AcceptFailed, Ended}
+use Rattle.gw_wire.specs.declared.values.Addr.{Addr}
+use Rattle.gw_wire.specs.AcceptStep.{AcceptStep}
+use Rattle.gw_wire.specs.Link.{LinkView}
+use Rattle.gw_wire.specs.Stretch.{Told, Then, Acts}
 use Rattle.gw_wire.specs.Wire.{WireView}
-use Rattle.gw_wire.specs.World.{WorldView, WorldLater, IsGiven}
-use Rattle.gw_top.specs.declared.run.Report.{Report}
-use Rattle.gw_top.specs.declared.worker.Worker.{Worker}
-use Rattle.gw_top.specs.Status.{FailedRightly, ServeCauses}
+use Rattle.gw_wire.specs.World.{WorldView, IsGiven}
+use Rattle.gw_wire.proofs.StretchLemmas.{Logs-none, Told-map, Told-acts, Told-then, Told-before_quiet}
+use Rattle.gw_pool.specs.declared.entry.Entry.{Entry}
+use Rattle.gw_pool.specs.declared.limits.Limits.{Limits}
+use Rattle.gw_pool.specs.Lent.{Lent}
+use Rattle.gw_top.specs.Leased.{IsVacant, Grows}
+use Rattle.gw_top.specs.Run.{Visit, Visited, Visits, Follow, Serving, Worked, made_by, began_by}
+use Rattle.gw_top.specs.Thin.{Turn, ThinExchange, FitsAt, ServedStep, made_in, began_in, failed_in, waits_in}
+use Rattle.gw_top.proofs.PoolLemmas.{grows_then}
+use Rattle.gw_top.proofs.WaitLemmas.{later_same, later_then}
 
 pub given_first : {W : Type 0} (world : WorldView) (wire : W → WireView) (wires : List W) (first : W) → wires ≡ first ∷ []
     → All (λ w. IsGiven world (wire w)) wires → IsGiven world (wire first)
@@ -14,17 +29,131 @@ given_first {W} world wire wires first one given =
     let P : List W → Type 0 = λ l. All (λ w. IsGiven world (wire w)) l in
     All-head (λ w. IsGiven world (wire w)) first [] (subst P one given)
 
--- a run whose only worker's accept failed
-pub failed_causes : {W : Type 0} (wire : W → WireView) (old new : WorldView) (report : Report W) (worker : Worker W) → report.status ≡ 8
-    → report.workers.items ≡ worker ∷ [] → worker.accept_failed ≡ true → FailedRightly wire worker → WorldLater old new
-    → ServeCauses wire old new report
-failed_causes {W} wire old new report worker status only failed rightly later = record {
-  later = later;
-  usage = λ e. omega arith;
-  file = λ e. omega arith;
-  listen = λ e. absurd (let no : ⊥ = omega arith in no);
-  accept = rw only (All-cons (FailedRightly wire) worker [] rightly (All-nil (FailedRightly wire)));
-  failed = λ e. rw only (0, omega arith, failed);
-  well = λ e. absurd (let no : ⊥ = omega arith in no);
-  empty = λ a b. absurd (b status);
+-- one client more
+visits_push : (members : List Addr) (backend : Addr) (visits : List Visit) (v : Visit) (l : List Act)
+    → Then (Visits members backend visits) (Visited members backend v) l → Visits members backend (visits ++ v ∷ []) l
+visits_push members backend [] v l t = (t.1, [], t.2 ∙ ap (λ x. x ++ t.1) t.3 ∙ sym (append-nil t.1), t.4, refl)
+visits_push members backend (x ∷ xs) v l t = (
+  t.3.0,
+  t.3.1 ++ t.1,
+  t.2 ∙ ap (λ y. y ++ t.1) t.3.2 ∙ append_assoc t.3.0 t.3.1 t.1,
+  t.3.3,
+  visits_push members backend xs v (t.3.1 ++ t.1) (t.3.1, t.1, refl, t.3.4, t.4),
+)
+
+made_push : (visits : List Visit) (v : Visit) → made_by (visits ++ v ∷ []) ≡ made_by visits ++ made_in v.turn
+made_push visits v = flat_map-append (λ x. made_in x.turn) visits (v ∷ []) ∙ ap (λ l. made_by visits ++ l) (append-nil (made_in v.turn))
+
+follow_push : (limits : Limits) (history : List Entry) (visits : List Visit) (v : Visit) → Follow limits history visits
+    → FitsAt limits (history ++ made_by visits) v.turn → Follow limits history (visits ++ v ∷ [])
+follow_push limits history [] v f h = ((let P : List Entry → Type 0 = λ l. FitsAt limits l v.turn in subst P (append-nil history) h), tt)
+follow_push limits history (x ∷ xs) v f h =
+    let P : List Entry → Type 0 = λ l. FitsAt limits l v.turn in
+    (f.0, follow_push limits (history ++ made_in x.turn) xs v f.1 (subst P (sym (append_assoc history (made_in x.turn) (made_by xs))) h))
+
+sum_push : (f : Visit → ℕ) (visits : List Visit) (v : Visit) → sum_by f (visits ++ v ∷ []) ≡ sum_by f visits + f v
+sum_push f visits v = sum_by-append f visits (v ∷ []) ∙ ap (λ n. sum_by f visits + n) (sum_by-cons f v [] ∙ (omega arith))
+
+began_push : (visits : List Visit) (v : Visit) (b : Bool) → b ≡ began_in v.turn → began_by (visits ++ v ∷ []) ≡ began_by visits + cond b 1 0
+began_push visits v b e = sum_push (λ x. cond (began_in x.turn) 1 0) visits v ∙ ap (λ c. began_by visits + cond c 1 0) (sym e)
+
+pub serving_begins : (wire : WireView) (lent : Lent) (backend : Addr) → wire.aged ≡ false → IsVacant lent → Serving wire wire lent lent backend 0 []
+serving_begins wire lent backend fresh v = record {
+  later = later_same wire;
+  fresh = fresh;
+  vacant = v;
+  fits = tt;
+  grows = record { limits = refl; seen = sym (append-nil lent.seen); mine = sym (append-nil lent.mine) };
+  count = refl;
+  faults = omega arith;
+  waited = omega arith;
+  log = Told-acts wire.log wire.log [] (Logs-none wire.log);
 }
+
+-- nobody came
+pub serving_on : {C : Type 0} (link : C → LinkView) (old mid new : WireView) (a b : Lent) (backend : Addr) (entered : ℕ) (visits : List Visit) → Serving old mid a b backend entered visits
+    → AcceptStep link mid new accept.Tick → Serving old new a b backend entered visits
+serving_on link old mid new a b backend entered visits s t = record {
+  later = later_then old mid new s.later t.later;
+  fresh = t.aged ∙ s.fresh;
+  vacant = s.vacant;
+  fits = s.fits;
+  grows = s.grows;
+  count = s.count;
+  faults = let f = s.faults in let l = t.later.dial_faults in omega arith;
+  waited = let f = s.waited in let l = t.later.ticks in omega arith;
+  log = Told-before_quiet old.log mid.log new.log (Visits (old.groups backend) backend visits) s.log t.log;
+}
+
+-- a client came and was served
+pub visit_of : ℕ → List ℕ → Turn → Visit
+visit_of client peer turn = record { client = client; peer = peer; turn = turn }
+
+pub serving_more : {C : Type 0} (link : C → LinkView) (old mid met new : WireView) (a b c : Lent) (backend : Addr) (entered now : ℕ) (visits : List Visit) (client : C) (peer : List ℕ) (began : Bool)
+    → Serving old mid a b backend entered visits → AcceptStep link mid met (accept.Conn client peer) → (s : ServedStep met new b c (link client).number backend began)
+    → now ≡ min (entered + cond began 1 0) (2 ^ 64 - 1)
+    → Serving old new a c backend now (visits ++ visit_of (link client).number peer s.turn ∷ [])
+unfolding visit_of
+serving_more link old mid met new a b c backend entered now visits client peer began w t s n =
+    let k = (link client).number in
+    let v = visit_of k peer s.turn in
+    let X = Visits (old.groups backend) backend visits in
+    let Y = Acts (Accepted k peer ∷ []) in
+    let Z = ThinExchange k (old.groups backend) backend s.turn in
+    let groups : met.groups ≡ old.groups = t.later.groups ∙ w.later.groups in
+    let P : (Addr → List Addr) → Type 0 = λ gs. Told met.log new.log (ThinExchange k (gs backend) backend s.turn) in
+    let Q : List Entry → Type 0 = λ l. FitsAt b.limits l s.turn in
+    let R : Limits → Type 0 = λ l. FitsAt l (a.seen ++ made_by visits) s.turn in
+    let T : List Entry → Type 0 = λ l. Grows a c l in
+    let told = Told-then old.log mid.log new.log X (Then Y Z) w.log
+    (Told-then mid.log met.log new.log Y Z (Told-acts mid.log met.log (Accepted k peer ∷ []) t.log) (subst P groups s.log)) in
+    record {
+      later = later_then old mid new w.later (later_then mid met new t.later s.later);
+      fresh = s.fresh;
+      vacant = s.vacant;
+      fits = follow_push a.limits a.seen visits v w.fits (subst R w.grows.limits (subst Q w.grows.seen s.fits));
+      grows = subst T (sym (made_push visits v)) (grows_then a b c _ _ w.grows s.grows);
+      count = let f = w.count in let g = began_push visits v began s.began_is in omega arith;
+      faults = let f = w.faults in let l = t.later.dial_faults in let m = s.faults in let g = sum_push (λ x. failed_in x.turn) visits v in omega arith;
+      waited = let f = w.waited in let l = t.later.ticks in let m = s.waited in let g = sum_push (λ x. waits_in x.turn) visits v in omega arith;
+      log = Told-map old.log new.log (Then X (Then Y Z)) (Visits (old.groups backend) backend (visits ++ v ∷ [])) (λ l p. visits_push (old.groups backend) backend visits v l p) told;
+    }
+
+-- the last accept
+pub worked_till_end : {C : Type 0} (link : C → LinkView) (old mid new : WireView) (a b : Lent) (backend : Addr) (entered : ℕ) (visits : List Visit) (failed : Bool) → failed ≡ false
+    → Serving old mid a b backend entered visits → AcceptStep link mid new accept.Ended → Worked old new a b backend entered failed
+worked_till_end link old mid new a b backend entered visits failed e s t = record {
+  visits = visits;
+  later = later_then old mid new s.later t.later;
+  fresh = t.aged ∙ s.fresh;
+  vacant = s.vacant;
+  fits = s.fits;
+  grows = s.grows;
+  count = s.count;
+  faults = let f = s.faults in let l = t.later.dial_faults in omega arith;
+  waited = let f = s.waited in let l = t.later.ticks in omega arith;
+  log = rw e (Told-then old.log mid.log new.log (Visits (old.groups backend) backend visits) (Acts (Ended ∷ [])) s.log (Told-acts mid.log new.log (Ended ∷ []) t.log));
+}
+
+pub worked_till_failure : {C : Type 0} (link : C → LinkView) (old mid new : WireView) (a b : Lent) (backend : Addr) (entered : ℕ) (visits : List Visit)
+    → Serving old mid a b backend entered visits → AcceptStep link mid new accept.Failed → Worked old new a b backend entered true
+worked_till_failure link old mid new a b backend entered visits s t = record {
+  visits = visits;
+  later = later_then old mid new s.later t.later;
+  fresh = t.aged ∙ s.fresh;
+  vacant = s.vacant;
+  fits = s.fits;
+  grows = s.grows;
+  count = s.count;
+  faults = let f = s.faults in let l = t.later.dial_faults in omega arith;
+  waited = let f = s.waited in let l = t.later.ticks in omega arith;
+  log = Told-then old.log mid.log new.log (Visits (old.groups backend) backend visits) (Acts (AcceptFailed ∷ [])) s.log (Told-acts mid.log new.log (AcceptFailed ∷ []) t.log);
+}
+
+-- a mark as a number
+pub mark_is : (b : Bool) (n : ℕ) → (b ≡ true → n ≡ 1) → (b ≡ false → n ≡ 0) → n ≡ cond b 1 0
+mark_is true n t f = t refl
+mark_is false n t f = f refl
+
+pub counts_more : (entered now mark : ℕ) (began : Bool) → mark ≡ cond began 1 0 → now ≡ min (entered + mark) (2 ^ 64 - 1) → now ≡ min (entered + cond began 1 0) (2 ^ 64 - 1)
+counts_more entered now mark began e n = n ∙ ap (λ m. min (entered + m) (2 ^ 64 - 1)) e

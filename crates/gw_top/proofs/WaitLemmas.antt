@@ -8,13 +8,15 @@ use Rattle.std.proofs.Math.Seq.{take-add, take-length}
 use Rattle.gw_wire.specs.declared.values.Act.{Act}
 use Rattle.gw_wire.specs.declared.values.Act.TheVariants.{Wrote, WriteFailed}
 use Rattle.gw_wire.specs.Acts.{Logs, written_of, bytes_written}
+use Rattle.gw_wire.specs.Causes.{RoseBy}
 use Rattle.gw_wire.specs.Link.{LinkView, LinkLater}
 use Rattle.gw_wire.specs.Stretch.{Told, Then, Acts}
 use Rattle.gw_wire.specs.Wire.{WireView, Later}
 use Rattle.gw_wire.proofs.StretchLemmas.{Logs-none, Told-map, Told-then, Told-acts, Told-before_quiet}
+use Rattle.gw_top.specs.declared.waits.Sent.{Sent}
 use Rattle.gw_top.specs.declared.waits.Sent.TheVariants as sent
 use Rattle.gw_top.specs.declared.waits.Taken.TheVariants as taken
-use Rattle.gw_top.specs.Waits.{Waiting, Sending, TakenStep, SentStep, Writes, IsWriteOf, Says}
+use Rattle.gw_top.specs.Waits.{sent_waits, Waiting, Sending, TakenStep, SentStep, Writes, IsWriteOf, Says}
 
 pub later_same : (wire : WireView) → Later wire wire
 later_same wire = record {
@@ -117,3 +119,9 @@ late_behind old mid new from at to bytes rest count s t =
 -- what `&bytes[count..]` is
 pub rest_of : (bytes : List ℕ) (count : ℕ) → take (length bytes - count) (drop count bytes) ≡ drop count bytes
 rest_of bytes count = rw (← length-drop count bytes) (take-length (drop count bytes))
+
+-- a write of many bytes waited through no more than the wait that it gave up
+pub sent_waited : (old new : WireView) (from to : LinkView) (result : Sent) (bytes : List ℕ) → SentStep old new from to bytes result → RoseBy (sent_waits result) old.ticks new.ticks
+sent_waited old new from to sent.All bytes s = let l = s.later in omega arith
+sent_waited old new from to sent.Failed bytes s = let l = s.later in omega arith
+sent_waited old new from to sent.Timeout bytes s = s.cause

@@ -1,5 +1,5 @@
 -- What a row of reads of one link has heard.
-use Rattle.std.specs.Prelude.{ℕ, ◌≡◌, ◌≤◌, ◌⊎◌, List, [], ◌∷◌, ◌++◌, length, All, Option}
+use Rattle.std.specs.Prelude.{ℕ, ◌≡◌, ◌≤◌, ◌<◌, ◌⊎◌, Bool, true, false, List, [], ◌∷◌, ◌++◌, length, All, Option}
 use Rattle.gw_wire.specs.declared.values.Act.{Act}
 use Rattle.gw_wire.specs.declared.values.Act.TheVariants.{Read, End, ReadFailed}
 use Rattle.gw_wire.specs.Acts.{bytes_read}
@@ -7,8 +7,8 @@ use Rattle.gw_wire.specs.Stretch.{Told, Then}
 use Rattle.gw_head.specs.declared.error.HeadError.TheVariants.{Malformed}
 use Rattle.gw_head.specs.Head.{RequestHeadOf, BadRequestHead}
 use Rattle.gw_head.specs.Stage.{IsTooLong, IsUndecided}
-use Rattle.gw_top.specs.declared.exchange.Request.{Request}
-use Rattle.gw_top.specs.declared.exchange.Request.TheVariants as request
+use Rattle.gw_top.specs.declared.request.Request.{Request}
+use Rattle.gw_top.specs.declared.request.Request.TheVariants as request
 
 -- an act that read from this link
 abbrev pub IsReadOf : ℕ → Act → Type 0
@@ -19,24 +19,40 @@ pub record Reads (link : ℕ) (bytes : List ℕ) (acts : List Act) : Type 0 wher
   pub only : All (IsReadOf link) acts
   pub all : bytes_read link acts ≡ bytes
 
--- a link said nothing more, for a reason that the log shows or for a million ticks
-abbrev pub Stops : ℕ → List Act → Type 0
-Stops link acts = (acts ≡ End link ∷ []) ⊎ ((acts ≡ ReadFailed link ∷ []) ⊎ (acts ≡ []))
+-- a link ended, or failed
+abbrev pub Breaks : ℕ → List Act → Type 0
+Breaks link acts = (acts ≡ End link ∷ []) ⊎ (acts ≡ ReadFailed link ∷ [])
 
 -- bytes that begin with a head that isn't taken, or with more than a head may have
 abbrev pub IsRefusedRequest : List ℕ → Type 0
 IsRefusedRequest bytes =
     ((front : List ℕ) × (behind : List ℕ) × (bytes ≡ front ++ behind) × BadRequestHead front Malformed) ⊎ IsTooLong bytes
 
+-- whether a byte came
+abbrev pub Began : Bool → List ℕ → Type 0
+Began true bytes = 0 < length bytes
+Began false bytes = bytes ≡ []
+
 -- what was heard of a client, by what came of its request
 abbrev pub HearsRequest : ℕ → Request → List Act → Type 0
 HearsRequest link (request.Head head) acts = (ahead : List ℕ) × RequestHeadOf head.bytes head × Reads link (head.bytes ++ ahead) acts
 HearsRequest link request.Refused acts = (bytes : List ℕ) × IsRefusedRequest bytes × Reads link bytes acts
-HearsRequest link (request.Gone began) acts = (bytes : List ℕ) × IsUndecided bytes × Then (Reads link bytes) (Stops link) acts
-HearsRequest link request.NoMemory acts = All (IsReadOf link) acts
+HearsRequest link (request.Gone began) acts =
+    (bytes : List ℕ) × IsUndecided bytes × Began began bytes × Then (Reads link bytes) (Breaks link) acts
+HearsRequest link (request.Silent began) acts = (bytes : List ℕ) × IsUndecided bytes × Began began bytes × Reads link bytes acts
+HearsRequest link (request.NoMemory began) acts = (bytes : List ℕ) × Began began bytes × Reads link bytes acts
 
--- a request's head that is being heard: so many pieces came, and these bytes, of which nothing is decided
+-- how many ticks it waited through in a wait that was given up
+abbrev pub request_waits : Request → ℕ
+request_waits (request.Head head) = 0
+request_waits request.Refused = 0
+request_waits (request.Gone began) = 0
+request_waits (request.Silent began) = 1000000
+request_waits (request.NoMemory began) = 0
+
+-- a head that is being heard: so many pieces came, and these bytes, of which nothing is decided
 pub record Hearing (link pieces : ℕ) (old new : Option (List Act)) (stream : List ℕ) : Type 0 where
   pub undecided : IsUndecided stream
+  pub none : pieces ≡ 0 → stream ≡ []
   pub some : pieces ≤ length stream
   pub log : Told old new (Reads link stream)

@@ -1,5 +1,11 @@
+pub mod Attempt
 pub mod Command
+pub mod Exchange
 pub mod Hearing
 pub mod Leased
+pub mod Replies
+pub mod RouteFile
+pub mod Run
 pub mod Status
+pub mod Thin
 pub mod Waits

@@ -88,6 +88,12 @@ SentCause old new from to sent.All = Unit {0}
 SentCause old new from to sent.Failed = Rose from.faults to.faults
 SentCause old new from to sent.Timeout = RoseBy 1000000 old.ticks new.ticks
 
+-- how many ticks a write of many bytes has waited through in a wait that was given up
+abbrev pub sent_waits : Sent → ℕ
+sent_waits sent.All = 0
+sent_waits sent.Failed = 0
+sent_waits sent.Timeout = 1000000
+
 -- a write of many bytes
 pub record SentStep (old new : WireView) (from to : LinkView) (bytes : List ℕ) (result : Sent) : Type 0 where
   pub later : Later old new

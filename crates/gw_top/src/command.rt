@@ -1,7 +1,7 @@
 // The words of the command line.
 
-ghost use Rattle.std.specs.Prelude.{◌↔◌, IsSome};
-ghost use Rattle.gw_top.specs.Command.{IsServe};
+ghost use Rattle.std.specs.Prelude.{◌≡◌, ◌↔◌, IsSome, IfSome};
+ghost use Rattle.gw_top.specs.Command.{IsServe, name_of};
 
 /// What is printed where the words are no command's form.
 pub const USAGE: &[u8] =
@@ -9,7 +9,8 @@ pub const USAGE: &[u8] =
 
 /// The name of the route file, where the words are `serve ROUTES`.
 pub fn serve_name(words: &[String]) -> Option<&str>
-    ensures { IsSome result ↔ IsServe words.now }
+    ensures form { IsSome result ↔ IsServe words.now }
+    ensures name { IfSome result (λ name. name.now ≡ name_of words.now) }
 {
     match words {
         [verb, name] if verb.as_str() == "serve" => Some(name.as_str()),

@@ -1,15 +1,10 @@
-// A connection to a backend, lent by the pool: an idle one, or one that is dialed.
+// A connection to the only backend, dialed for one exchange.
 
-ghost use Rattle.std.specs.Prelude.{◌≡◌, ◌<◌, [], ◌∷◌, false};
-ghost use Rattle.gw_wire.specs.Wire.{Later};
-ghost use Rattle.gw_pool.specs.Tokens.{ticket_of};
-ghost use Rattle.gw_top.specs.Leased.{KeepsOn, OutOf, OutOfWant};
+ghost use Rattle.std.specs.Prelude.{◌≡◌, ◌<◌, false, [], ◌∷◌};
+ghost use Rattle.gw_top.specs.Leased.{IsVacant, IsGranted, LeasedStep, DialedStep};
 
 use gw_pool::{Ask, Lease, Leases, Put, Start, Ticket, Want};
 use gw_wire::{Addr, Dial, Wire};
-
-/// How often a want is made again, or asked again.
-const TRIES: u32 = 1_000_000;
 
 /// How a want for a connection ends.
 pub enum Leased<C> {
@@ -19,86 +14,27 @@ pub enum Leased<C> {
     Unreachable,
     /// The pool's journal has no room.
     Full,
-    /// It was tried too often.
-    Late,
 }
 
-// How the making of a want ends.
-enum Wanted {
-    Ticket(Ticket),
-    Full,
-    Late,
-}
-
-/// Wants a connection to a host, and dials its address where the pool lends none.
+/// Wants a connection to host 0 of a pool that has none, and dials its address.
 pub fn lease<W: Wire, L: Leases<W::Conn>>(
     wire: &mut W,
     leases: &mut L,
-    host: u32,
     addr: &Addr,
 ) -> Leased<W::Conn>
     requires fresh { (W.wire wire.old).aged ≡ false }
-    requires host { host < (L.lent leases.old).limits.hosts }
-    requires one { 0 < (L.lent leases.old).limits.per_pass }
-    requires none { (L.lent leases.old).out ≡ [] }
-    ensures keeps { KeepsOn (W.wire wire.old) (W.wire wire.new) (L.lent leases.old) (L.lent leases.new) }
-    ensures out { OutOf W.Conn.link (L.lent leases.new) result }
+    requires vacant { IsVacant (L.lent leases.old) }
+    ensures { LeasedStep W.Conn.link (W.wire wire.old) (W.wire wire.new) (L.lent leases.old) (L.lent leases.new) addr.now result }
 {
-    match want(wire, leases, host) {
-        Wanted::Ticket(ticket) => ask(wire, leases, ticket, addr),
-        Wanted::Full => Leased::Full,
-        Wanted::Late => Leased::Late,
+    let now = wire.now();
+    match leases.want(0, now) {
+        Want::Ticket(ticket) => dial(wire, leases, ticket, addr),
+        Want::Expired(_conn) => unreachable!(),
+        Want::JournalFull => Leased::Full,
     }
 }
 
-// Makes a want. Connections that the pool hands out because they were idle too long are closed.
-fn want<W: Wire, L: Leases<W::Conn>>(wire: &mut W, leases: &mut L, host: u32) -> Wanted
-    requires fresh { (W.wire wire.old).aged ≡ false }
-    requires host { host < (L.lent leases.old).limits.hosts }
-    requires one { 0 < (L.lent leases.old).limits.per_pass }
-    requires none { (L.lent leases.old).out ≡ [] }
-    ensures keeps { KeepsOn (W.wire wire.old) (W.wire wire.new) (L.lent leases.old) (L.lent leases.new) }
-    ensures out { OutOfWant (L.lent leases.new) result }
-{
-    for _try in 0..TRIES {
-        let now = wire.now();
-        match leases.want(host, now) {
-            Want::Ticket(ticket) => return Wanted::Ticket(ticket),
-            Want::Expired(conn) => wire.close(conn),
-            Want::JournalFull => return Wanted::Full,
-        }
-    }
-    Wanted::Late
-}
-
-// Asks until the want is served, or granted a place to dial.
-fn ask<W: Wire, L: Leases<W::Conn>>(
-    wire: &mut W,
-    leases: &mut L,
-    ticket: Ticket,
-    addr: &Addr,
-) -> Leased<W::Conn>
-    requires fresh { (W.wire wire.old).aged ≡ false }
-    requires out { (L.lent leases.old).out ≡ ticket_of ticket.want ∷ [] }
-    ensures keeps { KeepsOn (W.wire wire.old) (W.wire wire.new) (L.lent leases.old) (L.lent leases.new) }
-    ensures out { OutOf W.Conn.link (L.lent leases.new) result }
-{
-    let mut held = ticket;
-    for _try in 0..TRIES {
-        match leases.ask(held) {
-            Ask::Taken(lease) => return Leased::Lease(lease),
-            Ask::Granted(back) => return dial(wire, leases, back, addr),
-            Ask::NotYet(back) => held = back,
-            Ask::Failed => return Leased::Unreachable,
-        }
-        wire.rest();
-        let _ = wire.now();
-    }
-    cancel(wire, leases, held);
-    Leased::Late
-}
-
-// Dials for a want, and asks how it stands then.
+/// Dials for a want that was granted a place.
 fn dial<W: Wire, L: Leases<W::Conn>>(
     wire: &mut W,
     leases: &mut L,
@@ -106,54 +42,32 @@ fn dial<W: Wire, L: Leases<W::Conn>>(
     addr: &Addr,
 ) -> Leased<W::Conn>
     requires fresh { (W.wire wire.old).aged ≡ false }
-    requires out { (L.lent leases.old).out ≡ ticket_of ticket.want ∷ [] }
-    ensures keeps { KeepsOn (W.wire wire.old) (W.wire wire.new) (L.lent leases.old) (L.lent leases.new) }
-    ensures out { OutOf W.Conn.link (L.lent leases.new) result }
+    requires granted { IsGranted (L.lent leases.old) ticket.want }
+    ensures { DialedStep W.Conn.link (W.wire wire.old) (W.wire wire.new) (L.lent leases.old) (L.lent leases.new) addr.now ticket.want result }
 {
-    match leases.start(&ticket) {
-        Start::Go(token) => match wire.dial(ticket.host, addr) {
-            Dial::Conn(conn) => {
-                let now = wire.now();
-                let put = leases.dialed(token, conn, now);
-                close(wire, put);
+    let token = match leases.start(&ticket) {
+        Start::Go(token) => token,
+        Start::NotGranted => unreachable!(),
+    };
+    match wire.dial(0, addr) {
+        Dial::Conn(conn) => {
+            let now = wire.now();
+            let Put { close: _ } = leases.dialed(token, conn, now);
+            match leases.ask(ticket) {
+                Ask::Taken(lease) => Leased::Lease(lease),
+                Ask::Granted(_ticket) => unreachable!(),
+                Ask::NotYet(_ticket) => unreachable!(),
+                Ask::Failed => unreachable!(),
             }
-            Dial::Failed => leases.dial_failed(token),
-        },
-        Start::NotGranted => {}
-    }
-    match leases.ask(ticket) {
-        Ask::Taken(lease) => Leased::Lease(lease),
-        Ask::Granted(back) => {
-            cancel(wire, leases, back);
-            Leased::Late
         }
-        Ask::NotYet(back) => {
-            cancel(wire, leases, back);
-            Leased::Late
+        Dial::Failed => {
+            leases.dial_failed(token);
+            match leases.ask(ticket) {
+                Ask::Taken(_lease) => unreachable!(),
+                Ask::Granted(_ticket) => unreachable!(),
+                Ask::NotYet(_ticket) => unreachable!(),
+                Ask::Failed => Leased::Unreachable,
+            }
         }
-        Ask::Failed => Leased::Unreachable,
-    }
-}
-
-// Gives a want up.
-fn cancel<W: Wire, L: Leases<W::Conn>>(wire: &mut W, leases: &mut L, ticket: Ticket)
-    requires fresh { (W.wire wire.old).aged ≡ false }
-    requires out { (L.lent leases.old).out ≡ ticket_of ticket.want ∷ [] }
-    ensures keeps { KeepsOn (W.wire wire.old) (W.wire wire.new) (L.lent leases.old) (L.lent leases.new) }
-    ensures out { (L.lent leases.new).out ≡ [] }
-{
-    let now = wire.now();
-    let put = leases.cancel(ticket, now);
-    close(wire, put);
-}
-
-// Closes the connection that a call of the pool hands out, if it does.
-fn close<W: Wire>(wire: &mut W, put: Put<W::Conn>)
-    ensures later { Later (W.wire wire.old) (W.wire wire.new) }
-    ensures aged { (W.wire wire.new).aged ≡ (W.wire wire.old).aged }
-{
-    let Put { close } = put;
-    if let Some(conn) = close {
-        wire.close(conn);
     }
 }

@@ -1,10 +1,13 @@
 // The gateway's top call: it reads the route file, listens, and serves clients over any world.
 #![tactic(auto)]
 
+mod address;
+mod attempt;
 mod command;
 mod exchange;
 mod lease;
 mod replies;
+mod request;
 mod route_file;
 mod run;
 mod waits;

@@ -1,7 +1,10 @@
 // The one form of the route file, until files with many routes are read.
 
-ghost use Rattle.std.specs.Prelude.{◌<◌, ◌≤◌, ◌^◌, IfSome};
+ghost use Rattle.std.specs.Prelude.{◌≡◌, ◌++◌, ℕ, List, MatchOption};
+ghost use Rattle.gw_wire.specs.declared.values.Addr.{Addr};
+ghost use Rattle.gw_top.specs.RouteFile.{IsFileOf, IsQuoted};
 
+use crate::address::{read_address, split_at_byte};
 use gw_pool::Limits;
 use gw_wire::Addr;
 
@@ -18,66 +21,53 @@ pub struct Table {
     pub hosts: Vec<Addr>,
 }
 
+// What stands before the two addresses, up to their first bytes.
+const OPEN: &[u8] = b"{\"listen\":\"";
+
+const MIDDLE: &[u8] = b",\"workers\":1,\"routes\":[{\"pattern\":\"/\",\"backend\":\"http://";
+
 /// The two addresses of a file of the one form, `{"listen":"A","workers":1,"routes":[{"pattern":"/",
 /// "backend":"http://B"}]}` on one line without blanks, perhaps with one line feed behind it.
-pub fn read_addresses(file: &[u8]) -> Option<(Addr, Addr)> {
-    let rest = file.strip_prefix(b"{\"listen\":\"".as_slice())?;
-    let (listen, rest) = read_address(rest)?;
-    let rest = rest.strip_prefix(
-        b"\",\"workers\":1,\"routes\":[{\"pattern\":\"/\",\"backend\":\"http://".as_slice(),
-    )?;
-    let (backend, rest) = read_address(rest)?;
-    let rest = rest.strip_prefix(b"\"}]}".as_slice())?;
-    match rest {
-        [] => Some((listen, backend)),
-        [b'\n'] => Some((listen, backend)),
-        _ => None,
-    }
-}
-
-// An address at the front of a text, and what stands behind it.
-fn read_address(text: &[u8]) -> Option<(Addr, &[u8])> {
-    let (local, ip, rest) = read_host(text)?;
-    let rest = rest.strip_prefix(b":".as_slice())?;
-    let (port, rest) = read_number(rest, 65_535)?;
-    if port == 0 {
-        return None;
-    }
-    let addr = Addr {
-        local,
-        ip,
-        port: port as u16,
-    };
-    Some((addr, rest))
-}
-
-// `localhost`, or four numbers from 0 to 255 joined by points.
-fn read_host(text: &[u8]) -> Option<(bool, [u8; 4], &[u8])> {
-    if let Some(rest) = text.strip_prefix(b"localhost".as_slice()) {
-        return Some((true, [127, 0, 0, 1], rest));
-    }
-    let (a, rest) = read_number(text, 255)?;
-    let (b, rest) = read_number(rest.strip_prefix(b".".as_slice())?, 255)?;
-    let (c, rest) = read_number(rest.strip_prefix(b".".as_slice())?, 255)?;
-    let (d, rest) = read_number(rest.strip_prefix(b".".as_slice())?, 255)?;
-    Some((false, [a as u8, b as u8, c as u8, d as u8], rest))
-}
-
-// A number up to the most, without leading zeros, and what stands behind it.
-fn read_number(text: &[u8], most: u32) -> Option<(u32, &[u8])>
-    requires { most < 2 ^ 16 }
-    ensures { IfSome result (λ read. read.0 ≤ most) }
+pub fn read_addresses(file: &[u8]) -> Option<(Addr, Addr)>
+    ensures { MatchOption result ((listen backend : Addr) → IsFileOf listen backend file.now → ⊥) (λ read. IsFileOf read.0 read.1 file.now) }
 {
-    let digits = text.iter().take_while(|byte| byte.is_ascii_digit()).count();
-    if digits == 0 || digits > 1 && text[0] == b'0' {
+    let Some((listen, rest)) = quoted(file, OPEN) else {
         return None;
+    };
+    let Some((backend, rest)) = quoted(rest, MIDDLE) else {
+        return None;
+    };
+    if rest == b"}]}".as_slice() {
+        return Some((listen, backend));
     }
-    let mut number = 0;
-    for byte in text[..digits].iter() {
-        number = number * 10 + u32::from(byte.saturating_sub(b'0'));
-        if number > most {
-            return None;
-        }
+    if rest == b"}]}\n".as_slice() {
+        return Some((listen, backend));
     }
-    Some((number, &text[digits..]))
+    None
+}
+
+/// The address between a prefix and a quotation mark, and what stands behind the mark.
+fn quoted<'a>(text: &'a [u8], prefix: &[u8]) -> Option<(Addr, &'a [u8])>
+    ensures { MatchOption result ((a : Addr) (rest : List ℕ) → IsQuoted prefix.now a rest text.now → ⊥) (λ read. IsQuoted prefix.now read.0 read.1.now text.now) }
+{
+    let Some(inside) = behind(text, prefix) else {
+        return None;
+    };
+    let Some((written, rest)) = split_at_byte(inside, b'"') else {
+        return None;
+    };
+    match read_address(written) {
+        Some(address) => Some((address, rest)),
+        None => None,
+    }
+}
+
+/// What stands behind a prefix.
+fn behind<'a>(text: &'a [u8], prefix: &[u8]) -> Option<&'a [u8]>
+    ensures { MatchOption result ((rest : List ℕ) → text.now ≡ prefix.now ++ rest → ⊥) (λ rest. text.now ≡ prefix.now ++ rest.now) }
+{
+    match text.strip_prefix(prefix) {
+        Some(rest) => Some(rest),
+        None => None,
+    }
 }

@@ -1,11 +1,10 @@
 // The top call of `gateway serve ROUTES`.
 
-ghost use Rattle.std.specs.Prelude.{◌≡◌, ◌<◌, [], ◌∷◌, length, false, IfOk, vec_capacity};
-ghost use Rattle.gw_wire.specs.Causes.{Rose};
+ghost use Rattle.std.specs.Prelude.{◌≡◌, ◌<◌, [], ◌∷◌, Some, map, IfOk, length, vec_capacity};
+ghost use Rattle.gw_wire.specs.declared.values.Act.TheVariants.{Closed as ClosedAct};
+ghost use Rattle.gw_wire.specs.Stretch.{Told, Acts};
 ghost use Rattle.gw_wire.specs.Wire.{Later};
-ghost use Rattle.gw_wire.specs.World.{WorldLater};
-ghost use Rattle.gw_top.specs.Command.{IsServe};
-ghost use Rattle.gw_top.specs.Status.{FailedRightly, StatusCauses, Refuses, RefusesOr7, IsReady, ServeCauses};
+ghost use Rattle.gw_top.specs.Status.{Ran, Ends, Refuses, RefusesOr7, Finished, IsReady, unreadable_line, unheard_line};
 
 use crate::command::{USAGE, serve_name};
 use crate::route_file::{Table, read_addresses};
@@ -51,30 +50,30 @@ pub fn run_gateway<R: Threads + Wait + Sync, H: World>(
     words: &[String],
     world: &mut H,
 ) -> Report<H::Wire>
-    ensures causes { StatusCauses H.Wire.wire words.now (H.world world.old) (H.world world.new) result }
+    ensures { Ran H.Wire.wire (H.world world.old) (H.world world.new) words.now result }
 {
     let Some(name) = serve_name(words) else {
-        return refuse(alloc, world, 2, &[USAGE]);
+        return refuse(alloc, world, 2, USAGE);
     };
     let file = match world.read_routes(name) {
         Loaded::Bytes(file) => file,
-        Loaded::Failed => {
-            return refuse(alloc, world, 3, &[b"cannot read ", name.as_bytes(), b"\n"]);
-        }
-        Loaded::NoMemory => return out_of_memory(alloc, world),
+        Loaded::Failed => return cannot_read(alloc, world, name),
+        Loaded::NoMemory => return refuse(alloc, world, 7, b"out of memory\n"),
     };
     let Some((listen, backend)) = read_addresses(file.as_slice()) else {
-        return refuse(alloc, world, 4, &[b"bad routes: G1\n"]);
+        return refuse(alloc, world, 4, b"bad routes: G1\n");
     };
     match prepare(alloc, listen, backend) {
         Ok(setup) => listen_and_serve(rt, alloc, world, setup),
-        Err(AllocError) => out_of_memory(alloc, world),
+        Err(AllocError) => refuse(alloc, world, 7, b"out of memory\n"),
     }
 }
 
-// Reserves what a run over one backend needs.
+/// Reserves what a run over one backend needs.
 fn prepare<W: Wire>(alloc: Global, listen: Addr, backend: Addr) -> Result<Setup<W>, AllocError>
-    ensures { IfOk result (λ setup. IsReady setup) }
+    ensures ready { IfOk result (λ setup. IsReady setup) }
+    ensures listens { IfOk result (λ setup. setup.table.listen ≡ listen) }
+    ensures leads { IfOk result (λ setup. setup.backend ≡ backend) }
 {
     let mut hosts = Vec::with_capacity(alloc, 1)?;
     hosts.push(backend)?;
@@ -102,7 +101,7 @@ fn prepare<W: Wire>(alloc: Global, listen: Addr, backend: Addr) -> Result<Setup<
     })
 }
 
-// Listens, and serves until the worker ends.
+/// Listens, and serves until the worker ends.
 fn listen_and_serve<R: Wait, H: World>(
     rt: &R,
     alloc: Global,
@@ -110,7 +109,7 @@ fn listen_and_serve<R: Wait, H: World>(
     setup: Setup<H::Wire>,
 ) -> Report<H::Wire>
     requires { IsReady setup }
-    ensures causes { ServeCauses H.Wire.wire (H.world world.old) (H.world world.new) result }
+    ensures { Ends H.Wire.wire (H.world world.old) (H.world world.new) setup.table.listen setup.backend result }
 {
     let Setup {
         table,
@@ -122,7 +121,7 @@ fn listen_and_serve<R: Wait, H: World>(
     let wire = match world.listen(&table.listen, table.workers) {
         Listening::Wires(wires) => first(wires),
         Listening::Failed => return cannot_listen(alloc, world, &table.listen),
-        Listening::NoMemory => return out_of_memory(alloc, world),
+        Listening::NoMemory => return refuse(alloc, world, 7, b"out of memory\n"),
     };
     let mut worker = Worker {
         number: 0,
@@ -132,22 +131,23 @@ fn listen_and_serve<R: Wait, H: World>(
     };
     work(rt, alloc, &mut worker, &mut pool, &backend, &mut buf);
     let Ok(Closed { journal, idle }) = pool.close() else {
-        return out_of_memory(alloc, world);
+        return refuse(alloc, world, 7, b"out of memory\n");
     };
     close_all(&mut worker.wire, idle);
     finish(world, table, journal, workers, worker)
 }
 
-// Closes the connections that are still idle, the least recently idle first.
+/// Closes the connections that are still idle, the least recently idle first.
 fn close_all<W: Wire>(wire: &mut W, idle: Vec<W::Conn>)
-    ensures { Later (W.wire wire.old) (W.wire wire.new) }
+    ensures later { Later (W.wire wire.old) (W.wire wire.new) }
+    ensures log { Told (W.wire wire.old).log (W.wire wire.new).log (Acts (map (λ c. ClosedAct (W.Conn.link c).number) idle.items)) }
 {
     for conn in idle {
         wire.close(conn);
     }
 }
 
-// The report of a run that served; it says where an accept failed.
+/// The report of a run that served; it says where an accept failed.
 fn finish<H: World>(
     world: &mut H,
     table: Table,
@@ -157,8 +157,7 @@ fn finish<H: World>(
 ) -> Report<H::Wire>
     requires nobody { workers.items ≡ [] }
     requires place { 0 < vec_capacity workers }
-    requires rightly { FailedRightly H.Wire.wire worker }
-    ensures causes { ServeCauses H.Wire.wire (H.world world.old) (H.world world.new) result }
+    ensures { Finished (H.world world.old) (H.world world.new) table journal.items worker result }
 {
     if worker.accept_failed {
         let _ = world.print(b"accept failed\n");
@@ -167,6 +166,7 @@ fn finish<H: World>(
     report_on(0, table, journal, workers, worker)
 }
 
+/// The report on one worker.
 fn report_on<W>(
     status: u8,
     table: Table,
@@ -177,6 +177,8 @@ fn report_on<W>(
     requires nobody { workers.items ≡ [] }
     requires place { 0 < vec_capacity workers }
     ensures status { result.status ≡ status }
+    ensures table { result.table ≡ Some table }
+    ensures journal { result.journal.items ≡ journal.items }
     ensures workers { result.workers.items ≡ worker ∷ [] }
 {
     let mut workers = workers;
@@ -189,7 +191,7 @@ fn report_on<W>(
     }
 }
 
-// The wire of the only worker.
+/// The wire of the only worker.
 fn first<W: Wire>(wires: Vec<W>) -> W
     requires { length wires.items ≡ 1 }
     ensures { wires.items ≡ result ∷ [] }
@@ -201,32 +203,30 @@ fn first<W: Wire>(wires: Vec<W>) -> W
     }
 }
 
-// The address can't be listened on.
+/// The route file can't be read.
+fn cannot_read<H: World>(alloc: Global, world: &mut H, name: &str) -> Report<H::Wire>
+    ensures { Refuses (H.world world.old) (H.world world.new) 3 (unreadable_line name.now) result }
+{
+    let _ = world.print(b"cannot read ");
+    let _ = world.print(name.as_bytes());
+    refuse(alloc, world, 3, b"\n")
+}
+
+/// The address can't be listened on.
 fn cannot_listen<H: World>(alloc: Global, world: &mut H, addr: &Addr) -> Report<H::Wire>
-    ensures later { WorldLater (H.world world.old) (H.world world.new) }
-    ensures refuses { RefusesOr7 6 result }
+    ensures { RefusesOr7 (H.world world.old) (H.world world.new) 6 (unheard_line addr.now) result }
 {
     match format!(in alloc; "cannot listen on {addr}\n") {
-        Ok(line) => refuse(alloc, world, 6, &[line.as_bytes()]),
-        Err(AllocError) => out_of_memory(alloc, world),
+        Ok(line) => refuse(alloc, world, 6, line.as_bytes()),
+        Err(AllocError) => refuse(alloc, world, 7, b"out of memory\n"),
     }
 }
 
-fn out_of_memory<H: World>(alloc: Global, world: &mut H) -> Report<H::Wire>
-    ensures later { WorldLater (H.world world.old) (H.world world.new) }
-    ensures refuses { Refuses 7 result }
+/// Prints a line, and answers this status.
+fn refuse<H: World>(alloc: Global, world: &mut H, status: u8, line: &[u8]) -> Report<H::Wire>
+    ensures { Refuses (H.world world.old) (H.world world.new) status line.now result }
 {
-    refuse(alloc, world, 7, &[b"out of memory\n"])
-}
-
-// Prints the parts of a line, and answers this status.
-fn refuse<H: World>(alloc: Global, world: &mut H, status: u8, line: &[&[u8]]) -> Report<H::Wire>
-    ensures later { WorldLater (H.world world.old) (H.world world.new) }
-    ensures refuses { Refuses status result }
-{
-    for part in line.iter() {
-        let _ = world.print(part);
-    }
+    let _ = world.print(line);
     Report {
         status,
         table: None,

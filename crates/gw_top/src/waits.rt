@@ -1,6 +1,7 @@
 // Waits for a link. A wait ends at its millionth tick.
 
 ghost use Rattle.std.specs.Prelude.{◌≡◌, ◌<◌, length, false};
+ghost use Rattle.gw_wire.specs.Wire.{NowStep};
 ghost use Rattle.gw_top.specs.Waits.{HeardStep, TakenStep, SentStep};
 
 use gw_wire::{Read, Wire, Write};
@@ -43,6 +44,13 @@ pub enum Sent {
     Timeout,
 }
 
+/// Reads the clock, as has to be done after each tick.
+fn read_clock<W: Wire>(wire: &mut W)
+    ensures { NowStep (W.wire wire.old) (W.wire wire.new) (W.wire wire.new).moment }
+{
+    let _ = wire.now();
+}
+
 /// Waits until bytes come, and reads the clock after each tick.
 pub fn hear<W: Wire>(wire: &mut W, conn: &mut W::Conn, buf: &mut [u8]) -> Heard
     requires room { 0 < length buf.old }
@@ -54,9 +62,7 @@ pub fn hear<W: Wire>(wire: &mut W, conn: &mut W::Conn, buf: &mut [u8]) -> Heard
             Read::Got(n) => return Heard::Got(n),
             Read::End => return Heard::End,
             Read::Failed => return Heard::Failed,
-            Read::Tick => {
-                let _ = wire.now();
-            }
+            Read::Tick => read_clock(wire),
         }
     }
     Heard::Timeout
@@ -72,9 +78,7 @@ fn offer<W: Wire>(wire: &mut W, conn: &mut W::Conn, bytes: &[u8]) -> Taken
         match wire.write(conn, bytes) {
             Write::Took(n) => return Taken::Some(n),
             Write::Failed => return Taken::Failed,
-            Write::Tick => {
-                let _ = wire.now();
-            }
+            Write::Tick => read_clock(wire),
         }
     }
     Taken::Timeout

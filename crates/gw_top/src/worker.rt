@@ -1,8 +1,9 @@
 // A worker accepts one client after another and serves each to its end.
 
-ghost use Rattle.std.specs.Prelude.{◌≡◌, ◌<◌, [], length, true, false};
+ghost use Rattle.std.specs.Prelude.{◌≡◌, ◌<◌, length, true, false};
 ghost use Rattle.gw_wire.specs.Causes.{Rose};
-ghost use Rattle.gw_top.specs.Leased.{KeepsOn};
+ghost use Rattle.gw_top.specs.Leased.{IsVacant};
+ghost use Rattle.gw_top.specs.Run.{Worked};
 
 use crate::exchange::serve;
 use gw_pool::Leases;
@@ -34,12 +35,11 @@ pub fn work<R: Wait, W: Wire, L: Leases<W::Conn>>(
 )
     requires fresh { (W.wire worker.old.wire).aged ≡ false }
     requires room { 0 < length buf.old }
-    requires host { 0 < (L.lent leases.old).limits.hosts }
-    requires one { 0 < (L.lent leases.old).limits.per_pass }
-    requires none { (L.lent leases.old).out ≡ [] }
+    requires vacant { IsVacant (L.lent leases.old) }
     requires serving { worker.old.accept_failed ≡ false }
-    ensures keeps { KeepsOn (W.wire worker.old.wire) (W.wire worker.new.wire) (L.lent leases.old) (L.lent leases.new) }
-    ensures none { (L.lent leases.new).out ≡ [] }
+    requires none { worker.old.entered ≡ 0 }
+    ensures worked { Worked (W.wire worker.old.wire) (W.wire worker.new.wire) (L.lent leases.old) (L.lent leases.new) backend.now
+        worker.new.entered worker.new.accept_failed }
     ensures number { worker.new.number ≡ worker.old.number }
     ensures failed { worker.new.accept_failed ≡ true
         → Rose (W.wire worker.old.wire).accept_faults (W.wire worker.new.wire).accept_faults }
@@ -47,10 +47,8 @@ pub fn work<R: Wait, W: Wire, L: Leases<W::Conn>>(
     for _client in rt.forever() {
         match worker.wire.accept() {
             Accept::Conn(client, _peer) => {
-                let served = serve(alloc, client, &mut worker.wire, leases, backend, buf);
-                if served.began {
-                    worker.entered = worker.entered.saturating_add(1);
-                }
+                let began = serve(alloc, client, &mut worker.wire, leases, backend, buf);
+                worker.entered = worker.entered.saturating_add(u64::from(began));
             }
             Accept::Tick => {}
             Accept::Ended => return,

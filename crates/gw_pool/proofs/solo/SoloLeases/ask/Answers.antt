@@ -17,7 +17,7 @@ returns-in-Taken g c = rw (← c.self.view_is) (ask_taken g.C.Link.link c.self.i
 pub returns-in-Granted : goal.returns-in-Granted
 returns-in-Granted g c = rw (← c.self.view_is) (record {
   others = [];
-  looks = looks c.self.inside.core c.ask.new.self c.self.inside.out c.self.inside.out c.self.inside.waits c.self.inside.waits c.self.invariant.legal (ap (λ x. x.limits) c.in-Granted.ensures.1) (ap (λ x. x.journal) c.in-Granted.ensures.1);
+  looks = looks c.self.inside.core c.ask.new.self c.self.inside.out c.self.inside.out c.self.inside.waits c.self.inside.waits c.self.invariant (ap (λ x. x.limits) c.in-Granted.ensures.1) (ap (λ x. x.journal) c.in-Granted.ensures.1);
   stands = rw (append-nil c.self.inside.core.journal) c.in-Granted.ensures.0;
   same = refl;
   leaves = record { out = refl; waits = refl };
@@ -26,7 +26,7 @@ returns-in-Granted g c = rw (← c.self.view_is) (record {
 pub returns-in-NotYet : goal.returns-in-NotYet
 returns-in-NotYet g c = rw (← c.self.view_is) (record {
   others = [];
-  looks = looks c.self.inside.core c.ask.new.self c.self.inside.out c.self.inside.out c.self.inside.waits c.saturating_add-self-inside.result c.self.invariant.legal (ap (λ x. x.limits) c.in-NotYet.ensures.1) (ap (λ x. x.journal) c.in-NotYet.ensures.1);
+  looks = looks c.self.inside.core c.ask.new.self c.self.inside.out c.self.inside.out c.self.inside.waits c.saturating_add-self-inside.result c.self.invariant (ap (λ x. x.limits) c.in-NotYet.ensures.1) (ap (λ x. x.journal) c.in-NotYet.ensures.1);
   stands = rw (append-nil c.self.inside.core.journal) c.in-NotYet.ensures.0;
   same = refl;
   leaves = record { out = refl; waits = c.saturating_add-self-inside.ensures };
@@ -35,7 +35,7 @@ returns-in-NotYet g c = rw (← c.self.view_is) (record {
 pub returns-in-Failed : goal.returns-in-Failed
 returns-in-Failed g c = rw (← c.self.view_is) (record {
   others = [];
-  looks = looks c.self.inside.core c.ask.new.self c.self.inside.out c.spend_ticket.new.self c.self.inside.waits c.self.inside.waits c.self.invariant.legal (ap (λ x. x.limits) c.in-Failed.ensures.1) (ap (λ x. x.journal) c.in-Failed.ensures.1);
+  looks = looks c.self.inside.core c.ask.new.self c.self.inside.out c.spend_ticket.new.self c.self.inside.waits c.self.inside.waits c.self.invariant (ap (λ x. x.limits) c.in-Failed.ensures.1) (ap (λ x. x.journal) c.in-Failed.ensures.1);
   stands = rw (append-nil c.self.inside.core.journal) c.in-Failed.ensures.0;
   leaves = record { out = c.spend_ticket.ensures.out; waits = refl };
 })

@@ -14,6 +14,6 @@ pub returns : goal.returns
 returns g c = rw (← c.self.view_is) (record {
   others = [];
   outcome = c.dial_failed.ensures.outcome;
-  calls = calls c.self.inside.core c.dial_failed.new.self c.self.inside.out c.spend_dial.new.self c.self.inside.waits c.self.inside.waits (call.DialFailed c.args.d.want) c.dial_failed.ensures.outcome (failed_enters c.self.inside.core c.dial_failed.new.self c.self.inside.out c.args.d.want c.self.invariant c.dial_failed.ensures);
+  calls = calls c.self.inside.core c.dial_failed.new.self c.self.inside.out c.spend_dial.new.self c.self.inside.waits c.self.inside.waits (call.DialFailed c.args.d.want) c.dial_failed.ensures.outcome c.self.invariant (failed_enters c.self.inside.core c.dial_failed.new.self c.self.inside.out c.args.d.want c.self.invariant c.dial_failed.ensures);
   leaves = record { out = c.spend_dial.ensures.out; waits = refl };
 })

@@ -14,7 +14,7 @@ pub returns : goal.returns
 returns g c = rw (← c.self.view_is) (record {
   others = [];
   outcome = c.dialed.ensures.outcome;
-  calls = calls c.self.inside.core c.dialed.new.self c.self.inside.out c.spend_dial.new.self c.self.inside.waits c.self.inside.waits (call.Dialed c.args.d.want (g.C.Link.link c.args.conn).number c.args.now) c.dialed.ensures.outcome (dialed_enters g.C.Link.link c.self.inside.core c.dialed.new.self c.self.inside.out c.args.d.want (g.C.Link.link c.args.conn).number c.args.now c.dialed.result.close c.self.invariant c.dialed.ensures);
+  calls = calls c.self.inside.core c.dialed.new.self c.self.inside.out c.spend_dial.new.self c.self.inside.waits c.self.inside.waits (call.Dialed c.args.d.want (g.C.Link.link c.args.conn).number c.args.now) c.dialed.ensures.outcome c.self.invariant (dialed_enters g.C.Link.link c.self.inside.core c.dialed.new.self c.self.inside.out c.args.d.want (g.C.Link.link c.args.conn).number c.args.now c.dialed.result.close c.self.invariant c.dialed.ensures);
   close = c.dialed.ensures.closes;
   leaves = record { out = c.spend_dial.ensures.out; waits = refl };
 })

@@ -12,6 +12,6 @@ pub returns-clause-step : goal.returns-clause-step
 returns-clause-step g c = rw (← c.self.view_is) (record {
   others = [];
   outcome = c.drop_conn.ensures.outcome;
-  calls = calls c.self.inside.core c.drop_conn.new.self c.self.inside.out c.spend_lease.new.self c.self.inside.waits c.self.inside.waits (call.Drop c.args.l.no) c.drop_conn.ensures.outcome (drop_enters c.self.inside.core c.drop_conn.new.self c.args.l.no c.args.l.want (row_of 0 c.args.l) (rw (← c.self.view_is) at c.requires.row) refl c.drop_conn.ensures);
+  calls = calls c.self.inside.core c.drop_conn.new.self c.self.inside.out c.spend_lease.new.self c.self.inside.waits c.self.inside.waits (call.Drop c.args.l.no) c.drop_conn.ensures.outcome c.self.invariant (drop_enters c.self.inside.core c.drop_conn.new.self c.args.l.no c.args.l.want (row_of 0 c.args.l) (rw (← c.self.view_is) at c.requires.row) refl c.drop_conn.ensures);
   leaves = record { out = c.spend_lease.ensures.out; waits = refl };
 })

@@ -12,7 +12,7 @@ pub returns-then-start : goal.returns-then-start
 returns-then-start g c = rw (← c.self.view_is) (record {
   others = [];
   outcome = c.if-start.ensures.outcome;
-  calls = calls c.self.inside.core c.start.new.self c.self.inside.out c.hand_out_dial.new.self c.self.inside.waits c.self.inside.waits (call.Start c.args.t.now.want) c.if-start.ensures.outcome (start_enters c.self.inside.core c.start.new.self c.self.inside.out c.args.t.now.want c.self.invariant c.if-start.ensures);
+  calls = calls c.self.inside.core c.start.new.self c.self.inside.out c.hand_out_dial.new.self c.self.inside.waits c.self.inside.waits (call.Start c.args.t.now.want) c.if-start.ensures.outcome c.self.invariant (start_enters c.self.inside.core c.start.new.self c.self.inside.out c.args.t.now.want c.self.invariant c.if-start.ensures);
   reply = c.if-start.ensures.is_go;
   want = refl;
   host = refl;
@@ -22,7 +22,7 @@ returns-then-start g c = rw (← c.self.view_is) (record {
 pub returns-else-start : goal.returns-else-start
 returns-else-start g c = rw (← c.self.view_is) (record {
   others = [];
-  looks = looks c.self.inside.core c.start.new.self c.self.inside.out c.self.inside.out c.self.inside.waits c.self.inside.waits c.self.invariant.legal (ap (λ x. x.limits) c.if-start.ensures.same) (ap (λ x. x.journal) c.if-start.ensures.same);
+  looks = looks c.self.inside.core c.start.new.self c.self.inside.out c.self.inside.out c.self.inside.waits c.self.inside.waits c.self.invariant (ap (λ x. x.limits) c.if-start.ensures.same) (ap (λ x. x.journal) c.if-start.ensures.same);
   stands = rw (append-nil c.self.inside.core.journal) (c.if-start.ensures.unfit 0);
   leaves = record { out = refl; waits = refl };
 })

@@ -1,0 +1,11 @@
+use Rattle.std.proofs.Common.{◌≡◌, List, ℕ}
+use Rattle.gw_head.specs.Stage.{reads}
+use Rattle.gw_top.specs.Hearing.{Hearing}
+use Rattle.gw_top.specs.Waits.{GoesOn}
+use Rattle.gw_top.proofs.attempt.hear_reply.Given as goal
+
+abbrev pub invariant-loop-piece : goal.invariant-loop-piece
+invariant-loop-piece g l =
+    GoesOn (g.W.Wire.wire l.initial.wire) (g.W.Wire.wire l.wire) (g.W.Conn.Link.link l.initial.conn) (g.W.Conn.Link.link l.conn)
+    × ((stream : List ℕ) × (l.reader ≡ reads stream)
+    × Hearing (g.W.Conn.Link.link l.initial.conn).number l._piece (g.W.Wire.wire l.initial.wire).log (g.W.Wire.wire l.wire).log stream)

@@ -1,5 +1,0 @@
-use Rattle.gw_top.specs.Waits.{GoesOn}
-use Rattle.gw_top.proofs.exchange.hear_reply.Given as goal
-
-abbrev pub invariant-loop-piece : goal.invariant-loop-piece
-invariant-loop-piece g l = GoesOn (g.W.Wire.wire l.initial.wire) (g.W.Wire.wire l.wire) (g.W.Conn.Link.link l.initial.conn) (g.W.Conn.Link.link l.conn)

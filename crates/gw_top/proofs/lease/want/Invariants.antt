@@ -1,8 +1,0 @@
-use Rattle.std.proofs.Common.{◌≡◌, []}
-use Rattle.gw_top.specs.Leased.{KeepsOn}
-use Rattle.gw_top.proofs.lease.want.Given as goal
-
-abbrev pub invariant-loop-try : goal.invariant-loop-try
-invariant-loop-try g l =
-    KeepsOn (g.W.Wire.wire l.initial.wire) (g.W.Wire.wire l.wire) (g.L.Leases.lent l.initial.leases) (g.L.Leases.lent l.leases)
-    × ((g.L.Leases.lent l.leases).out ≡ [])

@@ -1,0 +1,103 @@
+-- The run of one worker: its clients one after the other, with the pool's journal and the counts of its wire.
+use Rattle.std.specs.Prelude.{ℕ, ◌≡◌, ◌-◌, ◌^◌, min, Bool, false, List, [], ◌∷◌, ◌++◌, map, flat_map, count_by, sum_by, Option, Some, None, if◌then◌else◌}
+use Rattle.gw_wire.specs.declared.values.Act.{Act}
+use Rattle.gw_wire.specs.declared.values.Act.TheVariants.{Accepted, Closed, AcceptFailed, Ended}
+use Rattle.gw_wire.specs.declared.values.Addr.{Addr}
+use Rattle.gw_wire.specs.Causes.{RoseBy}
+use Rattle.gw_wire.specs.Stretch.{Told, Then, Acts}
+use Rattle.gw_wire.specs.Wire.{WireView, Later}
+use Rattle.gw_pool.specs.declared.entry.Entry.{Entry}
+use Rattle.gw_pool.specs.declared.limits.Limits.{Limits}
+use Rattle.gw_pool.specs.History.{IsLegal, AreBelow}
+use Rattle.gw_pool.specs.Idle.{idle_links}
+use Rattle.gw_pool.specs.Lent.{Lent}
+use Rattle.gw_top.specs.declared.worker.Worker.{Worker}
+use Rattle.gw_top.specs.Leased.{IsVacant, Grows}
+use Rattle.gw_top.specs.Thin.{Turn, ThinExchange, FitsAt, made_in, began_in, failed_in, waits_in}
+
+-- a client that was accepted, and how it was served
+pub record Visit : Type 0 where
+  pub client : ℕ
+  pub peer : List ℕ
+  pub turn : Turn
+
+abbrev pub Visited : List Addr → Addr → Visit → List Act → Type 0
+Visited members backend v = Then (Acts (Accepted v.client v.peer ∷ [])) (ThinExchange v.client members backend v.turn)
+
+abbrev pub Visits : List Addr → Addr → List Visit → List Act → Type 0
+Visits members backend [] acts = acts ≡ []
+Visits members backend (v ∷ later) acts = Then (Visited members backend v) (Visits members backend later) acts
+
+-- the caller's entries in all of them, in their order
+abbrev pub made_by : List Visit → List Entry
+made_by visits = flat_map (λ v. made_in v.turn) visits
+
+-- each exchange fits the history before it
+abbrev pub Follow : Limits → List Entry → List Visit → Type 0
+Follow limits history [] = Unit {0}
+Follow limits history (v ∷ later) = FitsAt limits history v.turn × Follow limits (history ++ made_in v.turn) later
+
+-- how many requests began, how many dials failed, and how many ticks were waited through in waits that were given up
+abbrev pub began_by : List Visit → ℕ
+began_by visits = count_by (λ v. began_in v.turn) visits
+
+abbrev pub failed_by : List Visit → ℕ
+failed_by visits = sum_by (λ v. failed_in v.turn) visits
+
+abbrev pub waits_by : List Visit → ℕ
+waits_by visits = sum_by (λ v. waits_in v.turn) visits
+
+-- a count stands still at its type's end
+abbrev pub counted : ℕ → ℕ
+counted count = min count (2 ^ 64 - 1)
+
+-- clients were served since, and so many requests began
+pub record Serving (old new : WireView) (before after : Lent) (backend : Addr) (entered : ℕ) (visits : List Visit) : Type 0 where
+  pub later : Later old new
+  pub fresh : new.aged ≡ false
+  pub vacant : IsVacant after
+  pub fits : Follow before.limits before.seen visits
+  pub grows : Grows before after (made_by visits)
+  pub count : entered ≡ counted (began_by visits)
+  pub faults : RoseBy (failed_by visits) old.dial_faults new.dial_faults
+  pub waited : RoseBy (waits_by visits) old.ticks new.ticks
+  pub log : Told old.log new.log (Visits (old.groups backend) backend visits)
+
+-- a worker's last act but for closes: the listener ended, or an accept failed
+abbrev pub last_act : Bool → Act
+last_act failed = if failed then AcceptFailed else Ended
+
+-- a worker served clients until its listener ended or an accept failed
+pub record Worked (old new : WireView) (before after : Lent) (backend : Addr) (entered : ℕ) (failed : Bool) : Type 0 where
+  pub visits : List Visit
+  pub later : Later old new
+  pub fresh : new.aged ≡ false
+  pub vacant : IsVacant after
+  pub fits : Follow before.limits before.seen visits
+  pub grows : Grows before after (made_by visits)
+  pub count : entered ≡ counted (began_by visits)
+  pub faults : RoseBy (failed_by visits) old.dial_faults new.dial_faults
+  pub waited : RoseBy (waits_by visits) old.ticks new.ticks
+  pub log : Told old.log new.log (Then (Visits (old.groups backend) backend visits) (Acts (last_act failed ∷ [])))
+
+-- a log that is told is all of this
+abbrev pub LogIs : Option (List Act) → (List Act → Type 0) → Type 0
+LogIs None P = Unit {0}
+LogIs (Some acts) P = P acts
+
+-- The run of one worker over one backend. The journal is one legal history: the entries of its exchanges in their order,
+-- and no others. Its log is its clients one after the other, then the end, then a close of each connection that is idle
+-- at the end of the history. Of the addresses that the backend's stands for there are these members, or none.
+pub record Run {W : Type 0} (wire : W → WireView) (limits : Limits) (members : List Addr) (backend : Addr) (journal : List Entry) (worker : Worker W) : Type 0 where
+  pub visits : List Visit
+  pub legal : IsLegal limits journal
+  pub callers : AreBelow limits.passes journal
+  pub all : journal ≡ made_by visits
+  pub fits : Follow limits [] visits
+  pub number : worker.number ≡ 0
+  pub entered : worker.entered ≡ counted (began_by visits)
+  pub faults : RoseBy (failed_by visits) 0 (wire worker.wire).dial_faults
+  pub waited : RoseBy (waits_by visits) 0 (wire worker.wire).ticks
+  pub log : LogIs (wire worker.wire).log
+      (Then (Then (Visits members backend visits) (Acts (last_act worker.accept_failed ∷ [])))
+      (Acts (map Closed (idle_links limits journal))))
