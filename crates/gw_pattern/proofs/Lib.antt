@@ -1,7 +1,7 @@
 mod Formed
-mod Parts
+pub mod Parts
 mod Rows
 mod Said
 mod Spelling
-mod Tidy
+pub mod Tidy
 mod Walked

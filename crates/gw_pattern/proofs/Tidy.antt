@@ -141,12 +141,12 @@ parts_of_pieces (part ∷ parts) false plain = parts_of_joined part (parts ++ []
 -- ---- tidy parts
 
 -- the parts but for an empty one at the end
-abbrev front : List (List ℕ) → List (List ℕ)
+abbrev pub front : List (List ℕ) → List (List ℕ)
 front [] = []
 front (part ∷ []) = if bytes_eq part [] then [] else part ∷ []
 front (part ∷ next ∷ parts) = part ∷ front (next ∷ parts)
 
-abbrev ends_empty : List (List ℕ) → Bool
+abbrev pub ends_empty : List (List ℕ) → Bool
 ends_empty [] = false
 ends_empty (part ∷ []) = bytes_eq part []
 ends_empty (part ∷ next ∷ parts) = ends_empty (next ∷ parts)
@@ -184,7 +184,7 @@ ends_cons b c bs =
     let e' : length bs ≡ length (c ∷ bs) - 1 = omega arith in
     ap (λ i. is_slash (get_or (b ∷ c ∷ bs) i 0)) e ∙ ap (λ i. is_slash (get_or (c ∷ bs) i 0)) e'
 
-ends_append : (xs ys : List ℕ) (y : ℕ) → ends_in_slash (xs ++ y ∷ ys) ≡ ends_in_slash (y ∷ ys)
+pub ends_append : (xs ys : List ℕ) (y : ℕ) → ends_in_slash (xs ++ y ∷ ys) ≡ ends_in_slash (y ∷ ys)
 ends_append [] ys y = refl
 ends_append (x ∷ []) ys y = ends_cons x y ys
 ends_append (x ∷ x' ∷ xs) ys y = ends_cons x x' (xs ++ y ∷ ys) ∙ ends_append (x' ∷ xs) ys y
@@ -193,7 +193,7 @@ ends_plain : (b : ℕ) (bs : List ℕ) → no_slash (b ∷ bs) ≡ true → ends
 ends_plain b [] h = (tail_plain b [] h).0
 ends_plain b (c ∷ bs) h = ends_cons b c bs ∙ ends_plain c bs (tail_plain b (c ∷ bs) h).1
 
-ends_joined : (part : List ℕ) (parts : List (List ℕ)) → ArePlain (part ∷ parts) → ends_in_slash (slash ∷ join_with_byte slash (part ∷ parts)) ≡ ends_empty (part ∷ parts)
+pub ends_joined : (part : List ℕ) (parts : List (List ℕ)) → ArePlain (part ∷ parts) → ends_in_slash (slash ∷ join_with_byte slash (part ∷ parts)) ≡ ends_empty (part ∷ parts)
 ends_joined [] [] plain = refl
 ends_joined (b ∷ bs) [] plain = ends_cons slash b bs ∙ ends_plain b bs plain.0
 ends_joined part (next ∷ parts) plain =

@@ -49,7 +49,7 @@ fn has_tidy_parts(parts: &[u8]) -> bool
     }
 }
 
-// The first part, and what stands after its slash.
+/// The first part, and what stands after its slash.
 pub(crate) fn split_part(path: &[u8]) -> (&[u8], Option<&[u8]>)
     ensures { SplitsPart path.now result.0.now result.1 }
 {
@@ -59,7 +59,7 @@ pub(crate) fn split_part(path: &[u8]) -> (&[u8], Option<&[u8]>)
     }
 }
 
-// The place of the first such byte.
+/// The place of the first such byte.
 pub(crate) fn place_of(bytes: &[u8], byte: u8) -> Option<usize>
     ensures place { result ≡ position (λ b. b == byte) bytes.now }
     ensures within { IfSome result (λ at. at < length bytes.now) }

@@ -32,7 +32,7 @@ impl Seg {
     ghost use Rattle.gw_pattern.specs.Pattern.{is_named};
     ghost use Rattle.gw_pattern.specs.Text.{has_name};
 
-    // A wildcard with a name; the one behind a slash at the path's end has none.
+    /// A wildcard with a name; the one behind a slash at the path's end has none.
     pub(crate) fn is_named(&self) -> bool
         ensures { result ≡ is_named self.now }
     {
@@ -43,7 +43,7 @@ impl Seg {
         }
     }
 
-    // A wildcard of this name.
+    /// A wildcard of this name.
     pub(crate) fn has_name(&self, name: &[u8]) -> bool
         ensures { result ≡ has_name name.now self.now }
     {

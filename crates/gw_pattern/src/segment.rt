@@ -15,7 +15,7 @@ const MAX_SEGMENTS: usize = 64;
 
 const MAX_WILDCARDS: usize = 16;
 
-// One more segment, at this place behind these. An empty part is that behind a slash at the path's end.
+/// One more segment, at this place behind these. An empty part is that behind a slash at the path's end.
 #[tactic(auto, unfolding(crate::specs::Text::seg_said))]
 pub(crate) fn read_seg(
     alloc: Global,

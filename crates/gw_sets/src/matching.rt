@@ -37,12 +37,14 @@ fn matches_method(method: &Option<Method>, asked: &[u8]) -> bool
     }
 }
 
+/// Whether a method is GET.
 pub(crate) fn is_get(method: &[u8]) -> bool
     ensures { result ≡ is_get method.now }
 {
     method == b"GET".as_slice()
 }
 
+/// Whether a method is HEAD.
 pub(crate) fn is_head(method: &[u8]) -> bool
     ensures { result ≡ is_head method.now }
 {

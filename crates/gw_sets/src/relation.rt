@@ -18,7 +18,7 @@ pub enum Relation {
 }
 
 impl Relation {
-    // The relation of two sets of pairs, where this is that of their first parts, and `second` of their second.
+    /// The relation of two sets of pairs, where this is that of their first parts, and `second` of their second.
     pub(crate) fn and(self, second: Relation) -> Relation
         ensures { result ≡ product self second }
     {
@@ -31,13 +31,14 @@ impl Relation {
         }
     }
 
-    // The sets meet, and neither is only a part of the other.
+    /// The sets meet, and neither is only a part of the other.
     pub(crate) fn is_ambiguous(self) -> bool
         ensures { result ≡ is_ambiguous self }
     {
         matches!(self, Relation::Equal | Relation::Overlap)
     }
 
+    /// The sets have no member in common.
     pub(crate) fn is_disjoint(self) -> bool
         ensures { result ≡ is_disjoint self }
     {

@@ -1,0 +1,14 @@
+mod Chosen
+mod Conflicting
+mod Finding
+mod Lawful
+mod Matched
+mod Methods
+mod Orders
+mod Parts
+mod Paths
+mod Redirecting
+mod Rows
+mod Serving
+mod Shapes
+mod Steps

@@ -1,0 +1,19 @@
+//! Routing (Go 1.22's `net/http`, `ServeMux`): which of a list of patterns answers a request, and what else a router
+//! answers: a redirect, the methods that are allowed, or that nothing is found.
+#![tactic(auto)]
+
+mod allowed;
+mod answer;
+mod best;
+mod conflicts;
+mod laws;
+mod location;
+mod routing;
+mod walk;
+
+pub use answer::{Decision, Found, Hit, MuxError, Spans};
+pub use laws::{best_is_there, candidates_are_ordered};
+pub use routing::Mux;
+
+#[cfg(test)]
+mod tests;
