@@ -1,6 +1,6 @@
 -- The walk over a head's fields.
-use Rattle.std.proofs.Common.{◌≡◌, ℕ, ◌+◌, ◌-◌, ◌*◌, ◌<◌, min, take, Bool, true, false, List, [], ◌∷◌, length, get_or, drop, map, sym, ap, ◌∙◌, arith}
-use Rattle.std.specs.Prelude.{IsTrue, ◌↔◌, if◌then◌else◌}
+use Rattle.std.proofs.Common.{◌≡◌, ℕ, ◌+◌, ◌-◌, ◌*◌, ◌<◌, min, take, Bool, true, false, List, [], ◌∷◌, length, get_or, drop, map, refl, sym, ap, ◌∙◌, arith}
+use Rattle.std.specs.Prelude.{IsTrue, ◌↔◌, ◌&&◌, if◌then◌else◌}
 use Rattle.std.specs.Char.{to_ascii_lowercase, is_ascii_digit, digit_value}
 use Rattle.std.specs.Int.{IsInRange}
 use Rattle.std.specs.Str.Parse.{digits_value}
@@ -12,7 +12,9 @@ use Rattle.std.specs.Str.{str_eq_ignore_ascii_case}
 use Rattle.std.proofs.lemmas.Slice.Eq.{bytes_eq-Decides}
 use Rattle.std.proofs.lemmas.Bool.Decides.{same_from_decides}
 use Rattle.std.proofs.lemmas.List.{at_drop_more, take_more}
-use Rattle.gw_head.specs.Fields.{values_named}
+use Rattle.std.specs.Prelude.{bytes_eq}
+use Rattle.std.specs.List.{list_all}
+use Rattle.gw_head.specs.Fields.{values_named, agrees}
 
 pub same_name : (r : Bool) (a b : List ℕ) → IsTrue r ↔ (map to_ascii_lowercase a ≡ map to_ascii_lowercase b)
     → str_eq_ignore_ascii_case a b ≡ r
@@ -32,6 +34,21 @@ values_more name pair fields i d r answer found within is test answered =
     at_drop_more (λ fs. values_named name (map pair fs)) fields i d within
     ∙ ap (λ a. if str_eq_ignore_ascii_case a name then field.1 ∷ rest else rest) (sym is)
     ∙ ap (λ b. if b then field.1 ∷ rest else rest) (same_name r found name test ∙ answered)
+
+-- the values of that name are all the same where each field agrees
+pub agree_values : (name value : List ℕ) (fields : List (List ℕ × List ℕ))
+    → list_all (agrees name value) fields ≡ list_all (bytes_eq value) (values_named name fields)
+agree_values name value [] = refl
+agree_values name value (field ∷ fields) =
+    agree_step (str_eq_ignore_ascii_case field.0 name) value field.1 (values_named name fields)
+    (list_all (agrees name value) fields) (agree_values name value fields)
+  where
+    agree_step : (r : Bool) (value found : List ℕ) (values : List (List ℕ)) (rest : Bool)
+        → rest ≡ list_all (bytes_eq value) values
+        → ((if r then bytes_eq value found else true) && rest)
+        ≡ list_all (bytes_eq value) (if r then found ∷ values else values)
+    agree_step true value found values rest e = ap (λ b. bytes_eq value found && b) e
+    agree_step false value found values rest e = e
 
 length_if : {X : Type 0} (r : Bool) (x : X) (rest : List X)
     → length (if r then x ∷ rest else rest) ≡ (if r then 1 else 0) + length rest

@@ -35,7 +35,7 @@ ends_cons b text rest other ends = record {
 }
 
 -- a byte that passes a test that LF fails is none
-passes_other : (test : ℕ → Bool) (b : ℕ) → test 10 ≡ false → test b ≡ true → (b == 10) ≡ false
+pub passes_other : (test : ℕ → Bool) (b : ℕ) → test 10 ≡ false → test b ≡ true → (b == 10) ≡ false
 passes_other test b fails passes =
     let differs : b ≢ 10 = λ e. false≢true (sym fails ∙ ap test (sym e) ∙ passes) in ne_eqb b 10 differs
 
@@ -46,7 +46,7 @@ ends_run test (b ∷ run) text rest fails all ends =
     ends_cons b (run ++ text) rest (passes_other test b fails (All-head (λ v. test v ≡ true) b run all))
     (ends_run test run text rest fails (All-tail (λ v. test v ≡ true) b run all) ends)
 
-token_fails : is_token_byte 10 ≡ false
+pub token_fails : is_token_byte 10 ≡ false
 unfolding is_token_byte
 token_fails = refl
 

@@ -1,7 +1,15 @@
+mod AnswerLemmas
+mod CheckLemmas
+mod CopyLemmas
 mod Examples
 mod FieldLemmas
+mod FrontLemmas
 mod GrammarEnd
 mod HeadLemmas
+mod LineLemmas
 mod MarkLemmas
+mod PieceLemmas
 mod ReaderLemmas
+mod Rows
+mod WholeLemmas
 pub mod FeedLemmas

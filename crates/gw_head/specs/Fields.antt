@@ -1,5 +1,5 @@
 -- The fields of a head (RFC 9110, section 5; RFC 9112, section 5).
-use Rattle.std.specs.Prelude.{◌≡◌, ℕ, ◌<◌, ◌^◌, List, [], ◌∷◌, length, map, if◌then◌else◌}
+use Rattle.std.specs.Prelude.{◌≡◌, ℕ, ◌<◌, ◌^◌, Bool, true, List, [], ◌∷◌, length, map, bytes_eq, if◌then◌else◌}
 use Rattle.std.specs.Char.{is_ascii_digit}
 use Rattle.std.specs.Str.{str_eq_ignore_ascii_case}
 use Rattle.std.specs.Str.Parse.{digits_value}
@@ -20,6 +20,10 @@ values_named name (field ∷ fields) =
 -- how many fields have that name
 abbrev pub count_named : List ℕ → List (List ℕ × List ℕ) → ℕ
 count_named name fields = length (values_named name fields)
+
+-- the field has another name, or this value
+abbrev pub agrees : List ℕ → List ℕ → List ℕ × List ℕ → Bool
+agrees name value field = if str_eq_ignore_ascii_case field.0 name then bytes_eq value field.1 else true
 
 -- the value of a Content-Length: digits of a number up to 2^63 - 1 (RFC 9110, section 8.6)
 pub record IsLength (value : List ℕ) (n : ℕ) : Type 0 where

@@ -1,8 +1,17 @@
+pub mod Checks
+pub mod Copies
 pub mod Fields
+pub mod Front
 pub mod Gather
 pub mod Head
+pub mod Host
 pub mod Laws
+pub mod Lines
 pub mod Mark
+pub mod Pieces
 pub mod Scan
 pub mod Stage
 pub mod Take
+pub mod Target
+pub mod Whole
+pub mod WholeLaws

@@ -1,7 +1,8 @@
 //! The fields of a head, by their names.
-ghost use Rattle.std.specs.Prelude.{◌≡◌, ◌≢◌, [], ◌∷◌, ℕ, All, MatchOption, map, length};
+ghost use Rattle.std.specs.Prelude.{◌≡◌, ◌≢◌, [], ◌∷◌, ℕ, List, All, MatchOption, map, length};
+ghost use Rattle.std.specs.List.{list_all};
 ghost use Rattle.httparse.specs.Spans.{IsHeaderWithin, header_bytes};
-ghost use Rattle.gw_head.specs.Fields.{values_named, IsLength};
+ghost use Rattle.gw_head.specs.Fields.{values_named, IsLength, agrees};
 
 use httparse::spans::HeaderSpan;
 
@@ -45,6 +46,51 @@ pub(crate) fn only_value<'b>(
         }
     }
     None
+}
+
+/// The value of the first field of that name.
+pub(crate) fn first_value<'b>(
+    bytes: &'b [u8],
+    fields: &[HeaderSpan],
+    name: &[u8],
+) -> Option<&'b [u8]>
+    requires { All (IsHeaderWithin (length bytes.now)) fields.now }
+    ensures { MatchOption result
+        (values_named name.now (map (header_bytes bytes.now) fields.now) ≡ [])
+        (λ value. (rest : List (List ℕ))
+        × (values_named name.now (map (header_bytes bytes.now) fields.now) ≡ value.now ∷ rest)) }
+{
+    for field in fields {
+        if field.name.of(bytes).eq_ignore_ascii_case(name) {
+            return Some(field.value.of(bytes));
+        }
+    }
+    None
+}
+
+/// Whether each field of that name has this value.
+pub(crate) fn values_agree(bytes: &[u8], fields: &[HeaderSpan], name: &[u8], value: &[u8]) -> bool
+    requires { All (IsHeaderWithin (length bytes.now)) fields.now }
+    ensures { result ≡ list_all (agrees name.now value.now) (map (header_bytes bytes.now) fields.now) }
+{
+    for field in fields {
+        if !agrees(bytes, field, name, value) {
+            return false;
+        }
+    }
+    true
+}
+
+// Whether the field has another name, or this value.
+fn agrees(bytes: &[u8], field: &HeaderSpan, name: &[u8], value: &[u8]) -> bool
+    requires { IsHeaderWithin (length bytes.now) field.now }
+    ensures { result ≡ agrees name.now value.now (header_bytes bytes.now field.now) }
+{
+    if field.name.of(bytes).eq_ignore_ascii_case(name) {
+        field.value.of(bytes) == value
+    } else {
+        true
+    }
 }
 
 /// The number that the value of a Content-Length writes; None where it is none.
