@@ -62,8 +62,8 @@ copyable_fields fields last all within =
 pub copyable_request : (bytes : List ℕ) (h : RequestHead) → length bytes ≤ 65536 → ReadsRequest bytes h []
     → All IsCopyable (fields_of h.fields)
 copyable_request bytes h within reads =
-    let section = print_section h.fields h.last ++ [] in
-    let line = print_end h.line_end ++ section in
+    let lines = print_section h.fields h.last ++ [] in
+    let line = print_end h.line_end ++ lines in
     let version = print_version h.minor ++ line in
     let target = h.target ++ 32 ∷ version in
     let all : length (print_blank h.blank ++ (h.method ++ 32 ∷ target)) ≤ 65536 =
@@ -72,13 +72,13 @@ copyable_request bytes h within reads =
     let from_target = behind_one 32 target 65536 (behind h.method (32 ∷ target) 65536 from_method) in
     let from_version = behind_one 32 version 65536 (behind h.target (32 ∷ version) 65536 from_target) in
     copyable_fields h.fields h.last reads.0.fields
-    (behind (print_end h.line_end) section 65536 (behind (print_version h.minor) line 65536 from_version))
+    (behind (print_end h.line_end) lines 65536 (behind (print_version h.minor) line 65536 from_version))
 
 pub copyable_reply : (bytes : List ℕ) (h : ResponseHead) → length bytes ≤ 65536 → ReadsResponse bytes h []
     → All IsCopyable (fields_of h.fields)
 copyable_reply bytes h within reads =
-    let section = print_section h.fields h.last ++ [] in
-    let line = print_end h.line_end ++ section in
+    let lines = print_section h.fields h.last ++ [] in
+    let line = print_end h.line_end ++ lines in
     let reason = print_reason h.reason ++ line in
     let code = h.digits ++ reason in
     let version = print_version h.minor ++ 32 ∷ code in
@@ -87,7 +87,7 @@ copyable_reply bytes h within reads =
     let from_version = behind (print_blank h.blank) version 65536 all in
     let from_code = behind_one 32 code 65536 (behind (print_version h.minor) (32 ∷ code) 65536 from_version) in
     let from_line = behind (print_reason h.reason) line 65536 (behind h.digits reason 65536 from_code) in
-    copyable_fields h.fields h.last reads.0.fields (behind (print_end h.line_end) section 65536 from_line)
+    copyable_fields h.fields h.last reads.0.fields (behind (print_end h.line_end) lines 65536 from_line)
 
 -- what holds of the fields holds of the spans that cover them
 pub along_spans : {X Y : Type 0} (P : X → Type 0) (f : Y → X) (ys : List Y) (xs : List X) → map f ys ≡ xs → All P xs

@@ -30,7 +30,7 @@ impl Model for Spans {
 }
 
 impl Spans {
-    // No place.
+    /// No place.
     pub(crate) fn new() -> Spans
         ensures { result ≡ [] }
     {
@@ -39,7 +39,7 @@ impl Spans {
         }
     }
 
-    // One place more.
+    /// One place more.
     pub(crate) fn push(&mut self, from: usize, to: usize)
         requires { length self.old < 16 }
         ensures { self.new ≡ self.old ++ (from, to) ∷ [] }

@@ -19,6 +19,7 @@ pub(crate) enum Form {
     Other,
 }
 
+/// The form of a target (RFC 9112, section 3.2).
 #[tactic(auto, unfolding(crate::specs::Target::form_of))]
 pub(crate) fn form_of(method: &[u8], target: &[u8]) -> Form
     ensures { result ≡ form_of method.now target.now }
