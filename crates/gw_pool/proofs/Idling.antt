@@ -1,7 +1,8 @@
 -- The idle rows, one after the other.
 use Rattle.std.proofs.Common.{◌≡◌, ℕ, zero, suc, ◌+◌, List, [], ◌∷◌, ◌++◌, map, length, Option, Some, None, refl, ap, sym, ◌∙◌, arith, append_assoc, append-nil}
-use Rattle.std.proofs.lemmas.List.{map-append}
 use Rattle.gw_pool.specs.declared.rows.ConnRow.{ConnRow}
+use Rattle.gw_pool.specs.Core.{CoreView, IsQuiet, state_at}
+use Rattle.gw_pool.specs.History.{after}
 use Rattle.gw_pool.specs.State.{State, take_oldest}
 use Rattle.gw_pool.specs.Idle.{before_others, first_idle, idle_rows}
 
@@ -30,3 +31,8 @@ pub moved_on : (all moved left : List ℕ) (s : State) (next : State) (row : Con
     → link ≡ row.link → idle_rows s ≡ row ∷ idle_rows next → left ≡ moved ++ link ∷ [] → left ++ map (λ r. r.link) (idle_rows next) ≡ all
 moved_on all moved left s next row link e l i m =
     rw (m, l) (append_assoc moved (row.link ∷ []) (map (λ r. r.link) (idle_rows next)) ∙ ap (λ rows. moved ++ map (λ r. r.link) rows) (sym i) ∙ e)
+
+-- a pool without an entry has no row
+pub quiet_at_first : (core : CoreView) → core.journal ≡ [] → IsQuiet (state_at core)
+unfolding after
+quiet_at_first core e = rw e (record { wants = refl; dials = refl; conns = refl })

@@ -7,6 +7,7 @@ ghost use Rattle.gw_pool.specs.Tokens.{ticket_of};
 use crate::answers::Closed;
 use crate::leases::{Ask, Leases, Put, Start, Ticket, Want};
 use crate::limits::Limits;
+use crate::pool::PoolCore;
 use crate::solo::Solo;
 use std::test::Fail;
 
@@ -80,6 +81,20 @@ fn first_exchange(rt: HostRuntime) -> Result<(), Fail> {
                 text.as_str(),
                 "[Entry { caller: 0, call: Want { host: 0, now: 7 }, reply: Granted { want: 0 } }, Entry { caller: 0, call: Start { want: 0 }, reply: Go }, Entry { caller: 0, call: Dialed { want: 0, link: 40, now: 7 }, reply: Kept { conn: 0 } }, Entry { caller: 0, call: Drop { conn: 0 }, reply: Dropped { next: None } }]"
             );
+            Ok(())
+        }
+        Err(_) => Err("no memory".into()),
+    }
+}
+
+#[test]
+fn opened_and_closed(rt: HostRuntime) -> Result<(), Fail> {
+    let core = PoolCore::<u64>::open(rt.alloc(), limits())?;
+    assert_eq!(rt; core.journal().len(), 0);
+    match core.close() {
+        Ok((journal, idle)) => {
+            assert_eq!(rt; journal.len(), 0);
+            assert_eq!(rt; idle.len(), 0);
             Ok(())
         }
         Err(_) => Err("no memory".into()),
