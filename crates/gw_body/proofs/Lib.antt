@@ -1,0 +1,4 @@
+pub mod Taking
+mod Readings
+mod Writing
+mod Rows

@@ -1,0 +1,66 @@
+-- What a writer writes of a body's data, piece by piece.
+use Rattle.std.specs.Prelude.{◌≡◌, ℕ, ◌-◌, ◌<◌, ◌≤◌, false, List, [], ◌∷◌, ◌++◌, length, nat_lt}
+use Rattle.gw_chunk.specs.Chunked.{piece_limit, coded_piece, coded_end, coded}
+use Rattle.gw_head.specs.declared.whole.framing.Framing.{Framing}
+use Rattle.gw_head.specs.declared.whole.framing.Framing.TheVariants.{None as NoBody, Length, Chunked as InChunks, ToEnd as ToLinkEnd}
+use Rattle.gw_body.specs.declared.plan.Plan.{Plan}
+use Rattle.gw_body.specs.declared.plan.Plan.TheVariants.{Counted, Chunked, ToEnd}
+
+-- before the first piece
+abbrev pub plan_of : Framing → Plan
+plan_of NoBody = Counted 0
+plan_of (Length n) = Counted n
+plan_of InChunks = Chunked false
+plan_of ToLinkEnd = ToEnd
+
+-- a piece of these bytes may be next: there are no more than are left, and in chunks no piece before was short
+abbrev pub Accepts : Plan → List ℕ → Type 0
+Accepts (Counted left) bytes = length bytes ≤ left
+Accepts (Chunked short) bytes = short ≡ false
+Accepts ToEnd bytes = Unit {0}
+
+-- what is written of a piece
+abbrev pub piece_text : Plan → List ℕ → List ℕ
+piece_text (Counted left) bytes = bytes
+piece_text (Chunked short) bytes = coded_piece bytes
+piece_text ToEnd bytes = bytes
+
+-- behind a piece
+abbrev pub behind_piece : Plan → List ℕ → Plan
+behind_piece (Counted left) bytes = Counted (left - length bytes)
+behind_piece (Chunked short) bytes = Chunked (nat_lt (length bytes) piece_limit)
+behind_piece ToEnd bytes = ToEnd
+
+-- the data may end here: there is as much as was said
+abbrev pub MayEnd : Plan → Type 0
+MayEnd (Counted left) = left ≡ 0
+MayEnd (Chunked short) = Unit {0}
+MayEnd ToEnd = Unit {0}
+
+-- what is written at the end
+abbrev pub end_text : Plan → List ℕ
+end_text (Counted left) = []
+end_text (Chunked short) = coded_end
+end_text ToEnd = []
+
+-- behind the end: nothing more may be written
+abbrev pub written_whole : Plan
+written_whole = Counted 0
+
+-- these pieces, one after another, and then the end
+abbrev pub IsWritable : Plan → List (List ℕ) → Type 0
+IsWritable plan [] = MayEnd plan
+IsWritable plan (piece ∷ pieces) =
+    (0 < length piece) × (length piece ≤ piece_limit) × Accepts plan piece × IsWritable (behind_piece plan piece) pieces
+
+-- what is written of them
+abbrev pub written : Plan → List (List ℕ) → List ℕ
+written plan [] = end_text plan
+written plan (piece ∷ pieces) = piece_text plan piece ++ written (behind_piece plan piece) pieces
+
+-- the text of a body's data: in chunks it is that of the encoder, else the data
+abbrev pub body_text : Framing → List ℕ → List ℕ
+body_text NoBody d = d
+body_text (Length n) d = d
+body_text InChunks d = coded d
+body_text ToLinkEnd d = d

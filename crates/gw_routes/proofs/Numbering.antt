@@ -1,0 +1,130 @@
+-- The numbers of routes and hosts, from the definition alone.
+use Rattle.std.proofs.Common.{◌≡◌, ℕ, ◌+◌, ◌<◌, ◌≤◌, Bool, true, false, ◌&&◌, List, [], ◌∷◌, ◌++◌, length, position, codes, Option, None, Some, Result, Ok, Err, refl, ap, sym, ◌∙◌, subst, arith}
+use Rattle.std.specs.Prelude.{nat_lt, nat_le, if◌then◌else◌, MatchResult, IfOk}
+use Rattle.std.specs.List.{All}
+use Rattle.std.proofs.lemmas.Bool.{and_parts, ltb-true, leb-true}
+use Rattle.std.proofs.lemmas.List.{length-append, length-map}
+use Rattle.std.proofs.lemmas.List.Elements.{All-nil, All-push, All-weaker}
+use Rattle.std.proofs.lemmas.List.Quantifiers.{position-Some}
+use Rattle.serde_json.specs.Data.{Data, Items, no_items, item}
+use Rattle.gw_wire.specs.declared.values.Addr.{Addr}
+use Rattle.gw_pattern.specs.Pattern.{spelled_of}
+use Rattle.gw_routes.specs.declared.fault.GCode.TheVariants.{OutOfRange}
+use Rattle.gw_routes.specs.declared.fault.RouteError.{RouteError}
+use Rattle.gw_routes.specs.declared.table.Action.{Action}
+use Rattle.gw_routes.specs.declared.table.Action.TheVariants.{Backend}
+use Rattle.gw_routes.specs.declared.table.Route.{Route}
+use Rattle.gw_routes.specs.declared.table.Table.{Table}
+use Rattle.gw_routes.specs.Kinds.{Said, ◌>>=◌, fault, json_said, list_said, number_said}
+use Rattle.gw_routes.specs.Names.{names_said}
+use Rattle.gw_routes.specs.Routes.{RouteList, RouteText, IsWithin, leads_to, is_same, host_at, hosts_at, host_of, route_said, with_route, routes_from, count_of, no_routes, items_said, routes_said}
+use Rattle.gw_routes.specs.Files.{TopText, IsTableOf, AreNumbered, listen_said, workers_bounds, journal_bounds, top_said, file_said}
+
+-- what is said in two steps is said in the first, and then in the second
+then_ok : {A B : Type 0} (s : Said A) (f : A → Said B) (y : B) → s >>= f ≡ Ok y → (x : A) × (s ≡ Ok x) × (f x ≡ Ok y)
+then_ok (Ok x) f y e = (x, refl, e)
+then_ok (Err e) f y h = cc
+
+abbrev said_as : {A : Type 0} → A → Said A
+said_as x = Ok x
+
+ok_same : {A : Type 0} (x y : A) → said_as x ≡ said_as y → x ≡ y
+ok_same x y e = cc
+
+-- the routes so far: as many as patterns, and their hosts are among those so far
+record AreListed (l : RouteList) : Type 0 where
+  paired : length l.patterns ≡ length l.routes
+  hosts : All (λ r. IsWithin (length l.hosts) r.action) l.routes
+
+within_more : (m n : ℕ) → m ≤ n → (a : Action) → IsWithin m a → IsWithin n a
+within_more m n more (Backend host) h = omega arith
+
+all_more : (m n : ℕ) → m ≤ n → (routes : List Route) → All (λ r. IsWithin m r.action) routes → All (λ r. IsWithin n r.action) routes
+all_more m n more routes h = All-weaker (λ r. IsWithin m r.action) (λ r. IsWithin n r.action) (λ r w. within_more m n more r.action w) routes h
+
+led : (hosts : List Addr) (addr : Addr) (routes : List Route) (text : List ℕ) (o : Option ℕ) → position (is_same addr) hosts ≡ o → All (λ r. IsWithin (length hosts) r.action) routes
+    → All (λ r. IsWithin (length (hosts_at hosts addr o)) r.action) (routes ++ leads_to text (host_at hosts o) ∷ [])
+led hosts addr routes text None e h =
+    let longer : length (hosts ++ addr ∷ []) ≡ length hosts + 1 = length-append hosts (addr ∷ []) in
+    All-push (λ r. IsWithin (length (hosts ++ addr ∷ [])) r.action) routes _ (all_more (length hosts) _ (omega arith) routes h) (omega arith)
+led hosts addr routes text (Some host) e h =
+    All-push (λ r. IsWithin (length hosts) r.action) routes _ h (position-Some (is_same addr) hosts host addr e).0
+
+listed_more : (l : RouteList) (r : RouteText) → AreListed l → AreListed (with_route l r)
+unfolding with_route
+listed_more l r h = record {
+  paired =
+      length-append l.patterns (r.pattern ∷ []) ∙ ap (λ n. n + 1) h.paired
+      ∙ sym (length-append l.routes (leads_to r.text (host_of l.hosts r.backend) ∷ []));
+  hosts = led l.hosts r.backend l.routes r.text (position (is_same r.backend) l.hosts) refl h.hosts;
+}
+
+longer_by : (l : RouteList) (r : RouteText) → length (with_route l r).routes ≡ length l.routes + 1
+unfolding with_route
+longer_by l r = length-append l.routes (leads_to r.text (host_of l.hosts r.backend) ∷ [])
+
+listed_from : (i : ℕ) (before : RouteList) (ds : Items) (l : RouteList) → AreListed before → routes_from i before ds ≡ Ok l → AreListed l × (length l.routes ≡ length before.routes + count_of ds)
+unfolding routes_from
+listed_from i before no_items l h e =
+    let same : before ≡ l = ok_same before l e in
+    let P : RouteList → Type 0 = λ x. AreListed x × (length x.routes ≡ length before.routes + 0) in
+    subst P same (h, omega arith)
+listed_from i before (item d ds) l h e =
+    let s = then_ok (route_said i d) (λ r. routes_from (i + 1) (with_route before r) ds) l e in
+    let more = listed_from (i + 1) (with_route before s.0) ds l (listed_more before s.0 h) s.2 in
+    (more.0, omega (arith, more.1, longer_by before s.0))
+
+record IsFull (l : RouteList) : Type 0 where
+  listed : AreListed l
+  some : 0 < length l.routes
+  few : length l.routes ≤ 1024
+
+full_by : (ds : Items) (b : Bool) (l : RouteList) → (nat_lt 0 (count_of ds) && nat_le (count_of ds) 1024) ≡ b → items_said ds ≡ Ok l → IsFull l
+unfolding items_said
+full_by ds true l is e =
+    let p = and_parts _ _ is in
+    let Q : Bool → Type 0 = λ b. (if b then routes_from 0 no_routes ds else fault OutOfRange None) ≡ Ok l in
+    let s = listed_from 0 no_routes ds l (record { paired = refl; hosts = All-nil (λ r. IsWithin 0 r.action) }) (subst Q is e) in
+    let least = ltb-true 0 (count_of ds) p.0 in
+    let most = leb-true (count_of ds) 1024 p.1 in
+    record { listed = s.0; some = omega (arith, s.1); few = omega (arith, s.1) }
+full_by ds false l is e =
+    let Q : Bool → Type 0 = λ b. (if b then routes_from 0 no_routes ds else fault OutOfRange None) ≡ Ok l in
+    let wrong : fault OutOfRange None ≡ Ok l = subst Q is e in cc
+
+full_routes : (d : Data) (l : RouteList) → routes_said d ≡ Ok l → IsFull l
+unfolding routes_said
+full_routes d l e =
+    let s = then_ok (list_said (codes "routes") None d) items_said l e in
+    full_by s.0 (nat_lt 0 (count_of s.0) && nat_le (count_of s.0) 1024) l refl s.2
+
+full_top : (d : Data) (t : TopText) → top_said d ≡ Ok t → IsFull t.routes
+unfolding top_said
+full_top d t e =
+    let a = then_ok (names_said None d) _ t e in
+    let b = then_ok (listen_said d) _ t a.2 in
+    let c = then_ok (number_said (codes "workers") workers_bounds None d) _ t b.2 in
+    let f = then_ok (number_said (codes "journal") journal_bounds None d) _ t c.2 in
+    let g = then_ok (routes_said d) _ t f.2 in
+    let same : record { listen = b.0; workers = c.0; journal = f.0; routes = g.0 } ≡ t = ok_same _ t g.2 in
+    subst (λ x. IsFull x.routes) same (full_routes d g.0 g.1)
+
+full_file : (bytes : List ℕ) (t : TopText) → file_said bytes ≡ Ok t → IsFull t.routes
+unfolding file_said
+full_file bytes t e = let s = then_ok (json_said bytes) top_said t e in full_top s.0 t s.2
+
+numbered : (t : TopText) (table : Table) → IsFull t.routes → IsTableOf t table → AreNumbered table
+numbered t table full is =
+    let same = is.routes in
+    let R : List Route → Type 0 = λ routes. All (λ r. IsWithin (length table.hosts.items) r.action) routes in
+    let H : List Addr → Type 0 = λ hosts. All (λ r. IsWithin (length hosts) r.action) t.routes.routes in
+    record {
+      some = rw is.routes full.some;
+      few = rw is.routes full.few;
+      paired = sym (length-map table.mux spelled_of) ∙ ap length is.patterns ∙ full.listed.paired ∙ ap length (sym is.routes);
+      hosts = subst R (sym is.routes) (subst H (sym is.hosts) full.listed.hosts);
+    }
+
+pub numbers_of : (bytes : List ℕ) (t : TopText) (refused : RouteError → Type 0) (result : Result Table RouteError) → file_said bytes ≡ Ok t → MatchResult result (IsTableOf t) refused → IfOk result AreNumbered
+numbers_of bytes t refused (Ok table) e is = numbered t table (full_file bytes t e) is
+numbers_of bytes t refused (Err error) e is = tt

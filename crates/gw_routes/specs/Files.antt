@@ -1,0 +1,103 @@
+-- The table that a route file says, or its first fault.
+use Rattle.std.specs.Prelude.{◌≡◌, ℕ, ◌<◌, ◌≤◌, All, List, map, length, None, Ok, Err, codes}
+use Rattle.serde_json.specs.Data.{Data}
+use Rattle.gw_wire.specs.declared.values.Addr.{Addr}
+use Rattle.gw_pattern.specs.declared.form.Pattern.{Pattern}
+use Rattle.gw_pattern.specs.Pattern.{spelled_of}
+use Rattle.gw_pool.specs.declared.limits.Limits.{Limits}
+use Rattle.gw_mux.specs.Table.{HasNoConflict, IsFirstConflict}
+use Rattle.gw_routes.specs.declared.fault.GCode.TheVariants.{BadAddress}
+use Rattle.gw_routes.specs.declared.fault.RouteError.{RouteError}
+use Rattle.gw_routes.specs.declared.fault.RouteError.TheVariants.{Bad, Conflict, NoMemory}
+use Rattle.gw_routes.specs.declared.kinds.Bounds.{Bounds}
+use Rattle.gw_routes.specs.declared.table.Table.{Table}
+use Rattle.gw_routes.specs.declared.top.Top.{Top}
+use Rattle.gw_routes.specs.Addresses.{address_of}
+use Rattle.gw_routes.specs.Kinds.{Said, ◌>>=◌, or_fault, json_said, text_said, number_said}
+use Rattle.gw_routes.specs.Names.{names_said}
+use Rattle.gw_routes.specs.Routes.{IsWithin, RouteList, route_list, routes_said}
+
+-- what stands at the top
+pub record TopText : Type 0 where
+  pub listen : Addr
+  pub workers : ℕ
+  pub journal : ℕ
+  pub routes : RouteList
+
+abbrev pub workers_bounds : Bounds
+workers_bounds = record { least = 1; most = 1; default = 1 }
+
+abbrev pub journal_bounds : Bounds
+journal_bounds = record { least = 16; most = 4194304; default = 1048576 }
+
+unfoldable pub listen_said : Data → Said Addr
+listen_said d = do
+  text ← text_said (codes "listen") None d
+  or_fault BadAddress None (address_of text)
+
+unfoldable pub top_said : Data → Said TopText
+top_said d = do
+  known ← names_said None d
+  listen ← listen_said d
+  workers ← number_said (codes "workers") workers_bounds None d
+  journal ← number_said (codes "journal") journal_bounds None d
+  routes ← routes_said d
+  Ok (record { listen = listen; workers = workers; journal = journal; routes = routes })
+
+abbrev pub top_text : Top → TopText
+top_text t = record { listen = t.listen; workers = t.workers; journal = t.journal; routes = route_list t.routes }
+
+unfoldable pub file_said : List ℕ → Said TopText
+file_said bytes = do
+  d ← json_said bytes
+  top_said d
+
+-- the limits of the pool; what the file can't name yet has its default
+abbrev pub limits_with : ℕ → ℕ → ℕ → Limits
+limits_with workers journal hosts = record {
+  idle_total = 100;
+  idle_per_host = 2;
+  conns_per_host = 0;
+  idle_ms = 90000;
+  journal = journal;
+  passes = workers;
+  per_pass = 1;
+  hosts = hosts;
+}
+
+abbrev pub limits_of : TopText → Limits
+limits_of t = limits_with t.workers t.journal (length t.routes.hosts)
+
+-- the table of what is said
+pub record IsTableOf (t : TopText) (table : Table) : Type 0 where
+  pub listen : table.listen ≡ t.listen
+  pub workers : table.workers ≡ t.workers
+  pub limits : table.limits ≡ limits_of t
+  pub hosts : table.hosts.items ≡ t.routes.hosts
+  pub routes : table.routes.items ≡ t.routes.routes
+  pub patterns : map spelled_of table.mux ≡ t.routes.patterns
+  pub apart : HasNoConflict table.mux
+
+abbrev pub Reads : List ℕ → Table → Type 0
+Reads bytes table = (t : TopText) × (file_said bytes ≡ Ok t) × IsTableOf t table
+
+-- the first fault of the file; a conflict where it has none
+abbrev pub Refuses : List ℕ → RouteError → Type 0
+Refuses bytes (Bad code route pattern) = file_said bytes ≡ Err (Bad code route pattern)
+Refuses bytes (Conflict first second) =
+    (t : TopText) × (patterns : List Pattern) × (file_said bytes ≡ Ok t) × (map spelled_of patterns ≡ t.routes.patterns)
+    × IsFirstConflict patterns first second
+Refuses bytes NoMemory = Unit {0}
+
+-- why what stands at the top gives no table
+abbrev pub RefusesTop : Top → RouteError → Type 0
+RefusesTop top (Bad code route pattern) = ⊥
+RefusesTop top (Conflict first second) = IsFirstConflict top.routes.patterns.items first second
+RefusesTop top NoMemory = Unit {0}
+
+-- what the numbers of a table tell: its routes have the numbers of its patterns, and their hosts are the table's
+pub record AreNumbered (table : Table) : Type 0 where
+  pub some : 0 < length table.routes.items
+  pub few : length table.routes.items ≤ 1024
+  pub paired : length table.mux ≡ length table.routes.items
+  pub hosts : All (λ r. IsWithin (length table.hosts.items) r.action) table.routes.items

@@ -1,0 +1,6 @@
+pub mod Addresses
+pub mod Codes
+pub mod Kinds
+pub mod Names
+pub mod Files
+pub mod Routes

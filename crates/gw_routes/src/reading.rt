@@ -1,0 +1,75 @@
+//! From a file to its table.
+ghost use Rattle.std.specs.Prelude.{◌≡◌, ◌≤◌, IfOk, MatchResult, length};
+ghost use Rattle.gw_mux.specs.Table.{ArePatterns};
+ghost use Rattle.gw_routes.specs.Files.{AreNumbered, IsTableOf, Reads, Refuses, RefusesTop, limits_with, top_text};
+
+use crate::fault::RouteError;
+use crate::placing::Placed;
+use crate::table::Table;
+use crate::top::{Top, read_file};
+use gw_mux::{Mux, MuxError};
+use gw_pool::Limits;
+use std::alloc::Global;
+
+/// The table that a route file says: a JSON object (RFC 8259) with the members `listen` (an address), `workers` (1, and
+/// 1 where it is missing), `journal` (16 to 4,194,304 entries; 1,048,576 where it is missing) and `routes` (a list of 1
+/// to 1,024 objects, each with the texts `pattern` and `backend`). Of two members of one name the later counts alone.
+/// Else the error is the first fault: that of the JSON text, then those at the top, then those of the routes in their
+/// order; in an object first a name that is not known, and then name by name. Where there is none, it is the first
+/// conflict of two patterns. Want of memory may stand in the place of any answer.
+pub fn read_routes(alloc: Global, bytes: &[u8]) -> Result<Table, RouteError>
+    ensures table { MatchResult result (Reads bytes.now) (Refuses bytes.now) }
+    ensures numbers { IfOk result AreNumbered }
+{
+    match read_file(alloc, bytes) {
+        Ok(top) => table_of(alloc, top),
+        Err(error) => Err(error),
+    }
+}
+
+fn table_of(alloc: Global, top: Top) -> Result<Table, RouteError>
+    requires patterns { ArePatterns top.routes.patterns.items }
+    requires hosts { length top.routes.hosts.items ≤ 1024 }
+    ensures { MatchResult result (IsTableOf (top_text top)) (RefusesTop top) }
+{
+    let Top {
+        listen,
+        workers,
+        journal,
+        routes,
+    } = top;
+    let Placed {
+        hosts,
+        routes,
+        patterns,
+    } = routes;
+    let limits = limits_of(workers, journal, hosts.len() as u32);
+    match Mux::build(alloc, patterns) {
+        Ok(mux) => Ok(Table {
+            listen,
+            workers,
+            limits,
+            hosts,
+            routes,
+            mux,
+        }),
+        Err(MuxError::Conflict { first, second }) => Err(RouteError::Conflict { first, second }),
+        Err(MuxError::NoMemory) => Err(RouteError::NoMemory),
+    }
+}
+
+// The limits of the pool; what the file can't name yet has its default.
+fn limits_of(workers: u32, journal: u32, hosts: u32) -> Limits
+    ensures { result ≡ limits_with workers journal hosts }
+{
+    Limits {
+        idle_total: 100,
+        idle_per_host: 2,
+        conns_per_host: 0,
+        idle_ms: 90_000,
+        journal,
+        passes: workers,
+        per_pass: 1,
+        hosts,
+    }
+}

@@ -1,0 +1,38 @@
+//! What the gateway serves.
+
+use gw_mux::Mux;
+use gw_pool::Limits;
+use gw_wire::{Addr, Bytes};
+
+/// What a route does with its requests.
+#[derive(Clone, Copy, Debug)]
+pub enum Action {
+    /// They go to the host of this number, from 0.
+    Backend { host: u32 },
+}
+
+/// A route, whose pattern the table's router has under the same number.
+#[derive(Debug, Drop)]
+pub struct Route {
+    /// The pattern's text, as the file has it.
+    pub text: Bytes,
+    /// What the route does.
+    pub action: Action,
+}
+
+/// What the gateway serves.
+#[derive(Debug, Drop)]
+pub struct Table {
+    /// The address to listen on.
+    pub listen: Addr,
+    /// How many workers there are.
+    pub workers: u32,
+    /// The limits of the pool: a pass for each worker, and each host of the table.
+    pub limits: Limits,
+    /// The addresses of the backends, by their host's number, from 0: as they first appear in the file.
+    pub hosts: Vec<Addr>,
+    /// The routes, by their number, from 0.
+    pub routes: Vec<Route>,
+    /// The router, which has the routes' patterns.
+    pub mux: Mux,
+}

@@ -1,0 +1,75 @@
+//! What stands at the top of a file.
+ghost use Rattle.std.specs.Prelude.{◌≡◌, ◌≤◌, IfOk, length};
+ghost use Rattle.serde_json.specs.View.{view};
+ghost use Rattle.gw_mux.specs.Table.{ArePatterns};
+ghost use Rattle.gw_routes.specs.Files.{file_said, listen_said, top_said, top_text};
+ghost use Rattle.gw_routes.specs.Kinds.{Gives};
+
+use crate::address::address_in;
+use crate::fault::{GCode, RouteError};
+use crate::kinds::{Bounds, number_at, read_value, text_at};
+use crate::names::check_names;
+use crate::placing::{Placed, read_all};
+use gw_wire::Addr;
+use serde_json::Value;
+use std::alloc::Global;
+
+/// What stands at the top of a file.
+#[derive(Drop)]
+pub(crate) struct Top {
+    pub(crate) listen: Addr,
+    pub(crate) workers: u32,
+    pub(crate) journal: u32,
+    pub(crate) routes: Placed,
+}
+
+#[tactic(auto, unfolding(crate::specs::Files::listen_said))]
+fn read_listen(file: &Value) -> Result<Addr, RouteError>
+    ensures { Gives (λ addr. addr) result (listen_said (view file.now)) }
+{
+    let text = text_at(file, "listen", None)?;
+    match address_in(text.as_bytes()) {
+        Some(addr) => Ok(addr),
+        None => Err(RouteError::bad(GCode::BadAddress, None)),
+    }
+}
+
+#[tactic(auto, unfolding(crate::specs::Files::top_said))]
+fn read_top(alloc: Global, file: &Value) -> Result<Top, RouteError>
+    ensures top { Gives top_text result (top_said (view file.now)) }
+    ensures patterns { IfOk result (λ t. ArePatterns t.routes.patterns.items) }
+    ensures hosts { IfOk result (λ t. length t.routes.hosts.items ≤ 1024) }
+{
+    check_names(file, None)?;
+    let listen = read_listen(file)?;
+    let workers = Bounds {
+        least: 1,
+        most: 1,
+        default: 1,
+    };
+    let workers = number_at(file, "workers", workers, None)?;
+    let journal = Bounds {
+        least: 16,
+        most: 4_194_304,
+        default: 1_048_576,
+    };
+    let journal = number_at(file, "journal", journal, None)?;
+    let routes = read_all(alloc, file)?;
+    Ok(Top {
+        listen,
+        workers,
+        journal,
+        routes,
+    })
+}
+
+/// What a file says, before its patterns are compared.
+#[tactic(auto, unfolding(crate::specs::Files::file_said))]
+pub(crate) fn read_file(alloc: Global, bytes: &[u8]) -> Result<Top, RouteError>
+    ensures top { Gives top_text result (file_said bytes.now) }
+    ensures patterns { IfOk result (λ t. ArePatterns t.routes.patterns.items) }
+    ensures hosts { IfOk result (λ t. length t.routes.hosts.items ≤ 1024) }
+{
+    let value = read_value(alloc, bytes)?;
+    read_top(alloc, &value)
+}
