@@ -1,11 +1,8 @@
 // The gateway's program: the real world, and one call of the library.
 #![tactic(auto)]
 
-mod tcp_wire;
-mod tcp_world;
-
-use crate::tcp_world::TcpWorld;
-use gw_top::run_gateway;
+use gw_tcp::TcpWorld;
+use gw_top::{run_gateway, run_plain};
 use std::alloc::AllocError;
 use std::process::ExitCode;
 use std::{env, io};
@@ -17,8 +14,20 @@ fn main(rt: HostRuntime) -> Result<ExitCode, AllocError> {
         Err(_) => Vec::new(rt.alloc()),
     };
     let mut world = TcpWorld::new(rt.clone()?, rt.alloc());
-    let report = run_gateway(&rt, rt.alloc(), words.as_slice(), &mut world);
-    Ok(ExitCode::from(report.status))
+    let status = if is_serve(words.as_slice()) {
+        run_gateway(&rt, rt.alloc(), words.as_slice(), &mut world).status
+    } else {
+        run_plain(rt.alloc(), words.as_slice(), &mut world)
+    };
+    Ok(ExitCode::from(status))
+}
+
+// Whether the first word asks for the gateway itself.
+fn is_serve(words: &[String]) -> bool {
+    match words {
+        [verb, ..] => verb.as_str() == "serve",
+        _ => false,
+    }
 }
 
 // The words of the command line without the program's name.

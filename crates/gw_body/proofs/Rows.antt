@@ -5,8 +5,8 @@ use Rattle.gw_chunk.specs.declared.error.ChunkError.TheVariants.{TooLarge}
 use Rattle.gw_chunk.specs.Bytes.{crlf}
 use Rattle.gw_chunk.specs.Chunked.{coded}
 use Rattle.gw_chunk.proofs.CodedLaws.{coded_is_chunked}
-use Rattle.gw_head.specs.declared.whole.framing.Framing.TheVariants.{None as NoBody, Length, Chunked, ToEnd}
-use Rattle.gw_head.specs.declared.whole.reply.ReplyHead.{ReplyHead}
+use Rattle.gw_head.specs.declared.framing.Framing.TheVariants.{None as NoBody, Length, Chunked, ToEnd}
+use Rattle.gw_head.specs.declared.reply.ReplyHead.{ReplyHead}
 use Rattle.gw_body.specs.declared.place.Place.TheVariants.{ToEnd as AtMost}
 use Rattle.gw_body.specs.Body.{BodyOf}
 use Rattle.gw_body.specs.Places.{FailsBody}

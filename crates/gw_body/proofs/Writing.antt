@@ -7,8 +7,8 @@ use Rattle.std.specs.List.{concat, flat_map}
 use Rattle.gw_chunk.specs.Chunked.{piece_limit, coded_piece, coded_end, coded}
 use Rattle.gw_chunk.specs.Laws.{AreCut}
 use Rattle.gw_chunk.proofs.CodedLaws.{cuts_are_coded, coded_is_chunked}
-use Rattle.gw_head.specs.declared.whole.framing.Framing.{Framing}
-use Rattle.gw_head.specs.declared.whole.framing.Framing.TheVariants.{None as NoBody, Length, Chunked as InChunks, ToEnd as ToLinkEnd}
+use Rattle.gw_head.specs.declared.framing.Framing.{Framing}
+use Rattle.gw_head.specs.declared.framing.Framing.TheVariants.{None as NoBody, Length, Chunked as InChunks, ToEnd as ToLinkEnd}
 use Rattle.gw_body.specs.declared.plan.Plan.{Plan}
 use Rattle.gw_body.specs.declared.plan.Plan.TheVariants.{Counted, Chunked, ToEnd}
 use Rattle.gw_body.specs.Body.{BodyOf}

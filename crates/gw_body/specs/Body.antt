@@ -4,8 +4,8 @@ use Rattle.std.specs.Prelude.{◌≡◌, ℕ, ◌<◌, ◌≤◌, List, [], ◌+
 use Rattle.gw_chunk.specs.declared.error.ChunkError.{ChunkError}
 use Rattle.gw_chunk.specs.declared.error.ChunkError.TheVariants.{TooLarge}
 use Rattle.gw_chunk.specs.Chunked.{IsChunked, BadChunk, data_limit}
-use Rattle.gw_head.specs.declared.whole.framing.Framing.{Framing}
-use Rattle.gw_head.specs.declared.whole.framing.Framing.TheVariants.{None as NoBody, Length, Chunked, ToEnd}
+use Rattle.gw_head.specs.declared.framing.Framing.{Framing}
+use Rattle.gw_head.specs.declared.framing.Framing.TheVariants.{None as NoBody, Length, Chunked, ToEnd}
 
 -- the bytes are a body of the framing, with this data, and then the rest; nothing follows a body up to the link's end
 abbrev pub BodyOf : Framing → List ℕ → List ℕ → List ℕ → Type 0

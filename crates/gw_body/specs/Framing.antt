@@ -1,8 +1,8 @@
 -- How the body behind a reply's head is framed (RFC 9112, section 6.3).
 use Rattle.std.specs.Prelude.{ℕ, Bool, ◌||◌, ◌&&◌, List, nat_lt, nat_le, bytes_eq, codes, Option, Some, None, ◌==◌, if◌then◌else◌}
-use Rattle.gw_head.specs.declared.whole.framing.Framing.{Framing}
-use Rattle.gw_head.specs.declared.whole.framing.Framing.TheVariants.{None as NoBody, Length, Chunked, ToEnd}
-use Rattle.gw_head.specs.declared.whole.reply.ReplyHead.{ReplyHead}
+use Rattle.gw_head.specs.declared.framing.Framing.{Framing}
+use Rattle.gw_head.specs.declared.framing.Framing.TheVariants.{None as NoBody, Length, Chunked, ToEnd}
+use Rattle.gw_head.specs.declared.reply.ReplyHead.{ReplyHead}
 
 -- a code of a reply without a body: 1xx, 204 and 304
 abbrev pub is_bodiless : ℕ → Bool

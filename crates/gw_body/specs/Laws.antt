@@ -3,8 +3,8 @@ use Rattle.std.specs.Prelude.{◌≡◌, ◌<◌, ◌≤◌, ◌↔◌, true, Li
 use Rattle.std.specs.List.{concat}
 use Rattle.gw_chunk.specs.declared.error.ChunkError.{ChunkError}
 use Rattle.gw_chunk.specs.Chunked.{data_limit, piece_limit}
-use Rattle.gw_head.specs.declared.whole.framing.Framing.{Framing}
-use Rattle.gw_head.specs.declared.whole.framing.Framing.TheVariants.{None as NoBody, Length, Chunked, ToEnd}
+use Rattle.gw_head.specs.declared.framing.Framing.{Framing}
+use Rattle.gw_head.specs.declared.framing.Framing.TheVariants.{None as NoBody, Length, Chunked, ToEnd}
 use Rattle.gw_body.specs.declared.place.Place.{Place}
 use Rattle.gw_body.specs.declared.plan.Plan.{Plan}
 use Rattle.gw_body.specs.Body.{BodyOf, BadBody}

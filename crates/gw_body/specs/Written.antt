@@ -1,8 +1,8 @@
 -- What a writer writes of a body's data, piece by piece.
 use Rattle.std.specs.Prelude.{◌≡◌, ℕ, ◌-◌, ◌<◌, ◌≤◌, false, List, [], ◌∷◌, ◌++◌, length, nat_lt}
 use Rattle.gw_chunk.specs.Chunked.{piece_limit, coded_piece, coded_end, coded}
-use Rattle.gw_head.specs.declared.whole.framing.Framing.{Framing}
-use Rattle.gw_head.specs.declared.whole.framing.Framing.TheVariants.{None as NoBody, Length, Chunked as InChunks, ToEnd as ToLinkEnd}
+use Rattle.gw_head.specs.declared.framing.Framing.{Framing}
+use Rattle.gw_head.specs.declared.framing.Framing.TheVariants.{None as NoBody, Length, Chunked as InChunks, ToEnd as ToLinkEnd}
 use Rattle.gw_body.specs.declared.plan.Plan.{Plan}
 use Rattle.gw_body.specs.declared.plan.Plan.TheVariants.{Counted, Chunked, ToEnd}
 

@@ -3,7 +3,7 @@ use crate::place::{Place, advance};
 use crate::{AtEnd, BodyReader, BodyWriter, reply_framing};
 use gw_chunk::{ChunkError, ChunkFed, ChunkStep, PIECE_LIMIT};
 use gw_fields::Fields;
-use gw_head::{Framing, WholeReply};
+use gw_head::{Framing, ReplyHead};
 use http::Method;
 use std::alloc::{AllocError, Global};
 use std::test::Fail;
@@ -199,7 +199,7 @@ fn framing_of_replies(rt: HostRuntime) {
         (305, false, None, Method::GET, Framing::ToEnd),
         (999, false, None, Method::OPTIONS, Framing::ToEnd),
     ] {
-        let head = WholeReply {
+        let head = ReplyHead {
             code,
             old: false,
             fields: Fields::new(rt.alloc()),

@@ -1,2 +1,6 @@
 pub mod Fields
+pub mod Hops
+pub mod Laws
+pub mod Lines
 pub mod Lists
+pub mod Order

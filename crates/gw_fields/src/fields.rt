@@ -1,7 +1,11 @@
 //! The list of fields.
-ghost use Rattle.std.specs.Prelude.{◌≡◌, ◌≤◌, [], ◌∷◌, ◌++◌, length, MatchOption, OnOk, OnErr, Some, slice_get, ◌==◌};
-ghost use Rattle.gw_fields.specs.Fields.{has_token, names_token};
+ghost use Rattle.std.specs.Prelude.{◌≡◌, ◌≤◌, [], ◌∷◌, ◌++◌, length, MatchOption, IfOk, OnOk, OnErr, Some, slice_get, ◌==◌};
+ghost use Rattle.std.specs.Str.{str_eq_ignore_ascii_case};
+ghost use Rattle.gw_fields.specs.Fields.{count_named, has_token, names_token};
+ghost use Rattle.gw_fields.specs.Hops.{is_hop, is_hop_name, without_hops};
+ghost use Rattle.gw_fields.specs.Order.{lines_of, sorted};
 
+use crate::lines::Lines;
 use crate::lists::lists_token;
 use http_header::{HeaderName, HeaderValue};
 use std::alloc::Global;
@@ -12,7 +16,7 @@ pub type NoMemory = std::alloc::AllocError;
 
 /// Fields in the order in which they came. Contracts see the list of their names, which are in lower case, and
 /// values.
-#[derive(Drop)]
+#[derive(Debug, Drop)]
 pub struct Fields {
     items: Vec<(HeaderName, HeaderValue)>,
 }
@@ -34,6 +38,15 @@ impl Fields {
         Fields {
             items: Vec::new(alloc),
         }
+    }
+
+    /// No fields, with room for so many.
+    pub fn with_capacity(alloc: Global, count: usize) -> Result<Fields, NoMemory>
+        ensures { IfOk result (λ fields. fields ≡ []) }
+    {
+        Ok(Fields {
+            items: Vec::with_capacity(alloc, count)?,
+        })
     }
 
     /// Adds a field behind the others. Where there is no memory, nothing is added.
@@ -68,6 +81,16 @@ impl Fields {
         Some((name, value))
     }
 
+    /// How many fields have that name, without case. It takes no memory.
+    pub fn count_named(&self, name: &[u8]) -> usize
+        ensures { result ≡ count_named name.now self.now }
+    {
+        self.items
+            .iter()
+            .filter(|field| is_named(&field.0, name))
+            .count()
+    }
+
     /// Whether a field of that name lists the token (RFC 9110, section 5.6.1): the value is split at commas, and
     /// spaces and tabs around an element don't count. Name and token are compared without case. It takes no memory.
     pub fn has_token(&self, name: &[u8], token: &[u8]) -> bool
@@ -80,6 +103,87 @@ impl Fields {
         }
         false
     }
+
+    /// Whether fields of that name belong to this connection alone (RFC 9110, section 7.6.1): it is a name that always
+    /// says so, or a `Connection` field lists it. The name is compared without case. It takes no memory.
+    pub fn is_hop(&self, name: &[u8]) -> bool
+        ensures { result ≡ is_hop self.now name.now }
+    {
+        is_hop_name(name) || self.has_token(b"connection", name)
+    }
+
+    /// Removes the fields that belong to this connection alone; the others stay in their order. It takes no memory.
+    pub fn strip_hops(&mut self)
+        ensures { self.new ≡ without_hops self.old }
+    {
+        // What is passed over stays behind the kept ones until the end, since a `Connection` among it is still asked.
+        let mut kept = 0;
+        for i in 0..self.items.len() {
+            if !self.is_hop(self.items[i].0.as_bytes()) {
+                self.items.swap(kept, i);
+                kept += 1;
+            }
+        }
+        self.items.truncate(kept);
+    }
+
+    /// The lines of all fields in their order.
+    pub fn lines(&self, alloc: Global) -> Result<Lines<'_>, NoMemory>
+        ensures { IfOk result (λ lines. lines ≡ self.now) }
+    {
+        let mut lines = Lines::new(alloc);
+        for (name, value) in &self.items {
+            lines.push(name.as_bytes(), value.as_bytes())?;
+        }
+        Ok(lines)
+    }
+
+    /// The lines of the fields that don't belong to this connection alone, in their order.
+    pub fn lines_without_hops(&self, alloc: Global) -> Result<Lines<'_>, NoMemory>
+        ensures { IfOk result (λ lines. lines ≡ without_hops self.now) }
+    {
+        let mut lines = Lines::new(alloc);
+        for (name, value) in &self.items {
+            if !self.is_hop(name.as_bytes()) {
+                lines.push(name.as_bytes(), value.as_bytes())?;
+            }
+        }
+        Ok(lines)
+    }
+
+    /// The text of the field lines as they are sent: in the byte order of their names in lower case, where equal names
+    /// keep their order; the first letter of a name and each letter behind a `-` is in upper case.
+    pub fn sorted(&self, alloc: Global) -> Result<Vec<u8>, NoMemory>
+        ensures { IfOk result (λ text. text.items ≡ lines_of (sorted self.now)) }
+    {
+        let mut lines = self.lines(alloc)?;
+        lines.sort()?;
+        let mut text = Vec::with_capacity(alloc, lines.text_len())?;
+        lines.write(&mut text)?;
+        Ok(text)
+    }
+}
+
+// Whether the field has that name, without case.
+fn is_named(own: &HeaderName, name: &[u8]) -> bool
+    ensures { result ≡ str_eq_ignore_ascii_case own.now name.now }
+{
+    own.as_bytes().eq_ignore_ascii_case(name)
+}
+
+// Whether the name always belongs to one connection.
+fn is_hop_name(name: &[u8]) -> bool
+    ensures { result ≡ is_hop_name name.now }
+{
+    name.eq_ignore_ascii_case(b"connection")
+        || name.eq_ignore_ascii_case(b"proxy-connection")
+        || name.eq_ignore_ascii_case(b"keep-alive")
+        || name.eq_ignore_ascii_case(b"proxy-authenticate")
+        || name.eq_ignore_ascii_case(b"proxy-authorization")
+        || name.eq_ignore_ascii_case(b"te")
+        || name.eq_ignore_ascii_case(b"trailer")
+        || name.eq_ignore_ascii_case(b"transfer-encoding")
+        || name.eq_ignore_ascii_case(b"upgrade")
 }
 
 // Whether the field has that name, and its value lists the token.

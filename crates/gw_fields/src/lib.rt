@@ -2,9 +2,13 @@
 #![tactic(auto)]
 
 mod fields;
+mod laws;
+mod lines;
 mod lists;
 
 pub use fields::{Fields, NoMemory};
+pub use laws::sorted_by_name;
+pub use lines::Lines;
 
 #[cfg(test)]
 mod tests;

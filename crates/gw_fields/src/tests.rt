@@ -1,7 +1,8 @@
-//! Fields with lists of tokens.
-use crate::Fields;
+//! Fields with lists of tokens, those that are stripped, and lines in their order.
+use crate::{Fields, Lines};
 use http_header::{HeaderName, HeaderValue};
 use std::alloc::Global;
+use std::str;
 use std::test::Fail;
 
 fn fields_of(alloc: Global, pairs: &[(&str, &str)]) -> Result<Fields, Fail> {
@@ -88,5 +89,139 @@ fn fields_stay_in_their_order(rt: HostRuntime) -> Result<(), Fail> {
         }
     }
     assert!(rt; fields.get(3).is_none() && none.get(0).is_none());
+    Ok(())
+}
+
+// What is left of the fields as lines, by `strip_hops` and by `lines_without_hops`.
+fn stripped(alloc: Global, pairs: &[(&str, &str)]) -> Result<(Vec<u8>, Vec<u8>), Fail> {
+    let mut fields = fields_of(alloc, pairs)?;
+    let mut lent = Vec::new(alloc);
+    fields.lines_without_hops(alloc)?.write(&mut lent)?;
+    fields.strip_hops();
+    let mut text = Vec::new(alloc);
+    fields.lines(alloc)?.write(&mut text)?;
+    Ok((text, lent))
+}
+
+const HOP_BY_HOP: &[(&str, &str)] = &[
+    ("Host", "example.com"),
+    ("Connection", "X-Secret, close"),
+    ("X-Secret", "1"),
+    ("TE", "gzip, trailers"),
+    ("Keep-Alive", "5"),
+    ("X-Forwarded-For", "1.2.3.4"),
+];
+
+const EACH_NAME: &[(&str, &str)] = &[
+    ("Connection", ""),
+    ("a", "1"),
+    ("Proxy-Connection", "x"),
+    ("Keep-Alive", "x"),
+    ("b", "2"),
+    ("Proxy-Authenticate", "x"),
+    ("Proxy-Authorization", "x"),
+    ("TE", "x"),
+    ("Trailer", "x"),
+    ("c", "3"),
+    ("Transfer-Encoding", "x"),
+    ("Upgrade", "x"),
+    ("a", "4"),
+];
+
+// A `Connection` counts wherever it stands, and where another names it.
+const NAMED: &[(&str, &str)] = &[
+    ("one", "1"),
+    ("Connection", "connection, ONE"),
+    ("two", "2"),
+    ("kept", "k"),
+    ("two", "3"),
+    ("connection", "Two"),
+];
+
+const NONE: &[(&str, &str)] = &[("te-x", "1"), ("upgrades", "2")];
+
+#[test]
+fn hops_are_stripped(rt: HostRuntime) -> Result<(), Fail> {
+    let table = [
+        (
+            HOP_BY_HOP,
+            "Host: example.com\r\nX-Forwarded-For: 1.2.3.4\r\n",
+        ),
+        (EACH_NAME, "A: 1\r\nB: 2\r\nC: 3\r\nA: 4\r\n"),
+        (NAMED, "Kept: k\r\n"),
+        (NONE, "Te-X: 1\r\nUpgrades: 2\r\n"),
+        (&[], ""),
+    ];
+    for (pairs, expected) in table {
+        let (text, lent) = stripped(rt.alloc(), pairs)?;
+        assert_eq!(rt; str::from_utf8(&text).unwrap_or("not text"), expected);
+        assert_eq!(rt; str::from_utf8(&lent).unwrap_or("not text"), expected);
+    }
+    Ok(())
+}
+
+const ROW: &[(&str, &str)] = &[("x-b", "2"), ("A", "1"), ("X-B", "1")];
+
+// `_` and digits stand before the letters of lower case, `-` before both, and a name before a longer one.
+const MARKS: &[(&str, &str)] = &[
+    ("x-a", "1"),
+    ("x-_", "2"),
+    ("xa", "3"),
+    ("x", "4"),
+    ("x-0", "5"),
+    ("_x", "6"),
+];
+
+const SPELLINGS: &[(&str, &str)] = &[
+    ("WWW-AUTHENTICATE", "Basic"),
+    ("etag", ""),
+    ("content-md5", "a b"),
+    ("a--b-", "c"),
+];
+
+#[test]
+fn sorted_lines(rt: HostRuntime) -> Result<(), Fail> {
+    let table = [
+        (ROW, "A: 1\r\nX-B: 2\r\nX-B: 1\r\n"),
+        (
+            MARKS,
+            "_x: 6\r\nX: 4\r\nX-0: 5\r\nX-_: 2\r\nX-A: 1\r\nXa: 3\r\n",
+        ),
+        (
+            SPELLINGS,
+            "A--B-: c\r\nContent-Md5: a b\r\nEtag: \r\nWww-Authenticate: Basic\r\n",
+        ),
+        (&[], ""),
+    ];
+    for (pairs, expected) in table {
+        let text = fields_of(rt.alloc(), pairs)?.sorted(rt.alloc())?;
+        assert_eq!(rt; str::from_utf8(&text).unwrap_or("not text"), expected);
+    }
+    Ok(())
+}
+
+#[test]
+fn many_lines_stay_stable(rt: HostRuntime) -> Result<(), Fail> {
+    let digits: [&str; 10] = ["0", "1", "2", "3", "4", "5", "6", "7", "8", "9"];
+    let mut lines = Lines::new(rt.alloc());
+    for digit in digits {
+        for name in ["c", "a", "b"] {
+            lines.push(name.as_bytes(), digit.as_bytes())?;
+        }
+    }
+    lines.sort()?;
+    lines.remove(b"B");
+    let mut text = Vec::new(rt.alloc());
+    lines.write(&mut text)?;
+    assert_eq!(rt; lines.text_len(), 120);
+    let mut expected = Vec::new(rt.alloc());
+    for name in ["A", "C"] {
+        for digit in digits {
+            for part in [name, ": ", digit, "\r\n"] {
+                expected.extend_from_slice(part.as_bytes())?;
+            }
+        }
+    }
+    assert_eq!(rt; text, expected);
     Ok(())
 }

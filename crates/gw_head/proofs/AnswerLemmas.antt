@@ -4,12 +4,12 @@ use Rattle.std.specs.Prelude.{◌⊎◌, Option, Some, None}
 use Rattle.std.proofs.lemmas.Option.{same_Some, none-some}
 use Rattle.httparse.specs.Grammar.{RequestHead as RequestParts, ReadsRequest, ResponseHead as ReplyParts, ReadsResponse, status_code}
 use Rattle.httparse.proofs.GrammarLemmas.{request_unique, response_unique}
-use Rattle.gw_head.specs.declared.whole.error.HeadError.{HeadError}
-use Rattle.gw_head.specs.declared.whole.error.HeadError.TheVariants.{Malformed}
+use Rattle.gw_head.specs.declared.error.HeadError.{HeadError}
+use Rattle.gw_head.specs.declared.error.HeadError.TheVariants.{Malformed}
 use Rattle.gw_head.specs.Fields.{fields_of}
 use Rattle.gw_head.specs.Checks.{request_lines_fault, reply_lines_fault}
-use Rattle.gw_head.specs.Whole.{request_head_of, reply_head_of, request_parts_fault, reply_parts_fault, BadRequestBy, BadReplyBy}
-use Rattle.gw_head.specs.WholeLaws.{OneRequestAnswer, OneReplyAnswer}
+use Rattle.gw_head.specs.Head.{request_head_of, reply_head_of, request_parts_fault, reply_parts_fault, BadRequestBy, BadReplyBy}
+use Rattle.gw_head.specs.Laws.{OneRequestAnswer, OneReplyAnswer}
 
 -- ---- where there is one reading at most
 

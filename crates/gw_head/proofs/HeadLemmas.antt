@@ -1,34 +1,11 @@
--- What the parser's answer says of plain requests and replies.
+-- What the parser's answer says of a whole head.
 use Rattle.std.proofs.Common.{◌≡◌, ℕ, ◌≤◌, List, [], length, sym, ap, ◌∙◌, subst, arith, refl, ◌∷◌, ◌++◌, length-append}
 use Rattle.std.specs.Prelude.{Some}
 use Rattle.std.proofs.lemmas.Option.{same_Some}
-use Rattle.std.proofs.lemmas.List.{length-map}
-use Rattle.httparse.specs.Grammar.{Field, RequestHead as RequestParts, print_request, ReadsRequest, ResponseHead as ReplyParts, print_response, ReadsResponse}
-use Rattle.httparse.specs.Spans.{name_and_value}
-use Rattle.gw_head.specs.Fields.{fields_of}
-use Rattle.gw_head.specs.Head.{IsPlainRequest, IsPlainReply, field_limit}
+use Rattle.httparse.specs.Grammar.{RequestHead as RequestParts, print_request, ReadsRequest, ResponseHead as ReplyParts, print_response, ReadsResponse}
 use Rattle.gw_head.specs.Mark.{head_end}
 use Rattle.gw_head.proofs.GrammarEnd.{request_end, response_end}
 use Rattle.gw_head.proofs.MarkLemmas.{head_end-append}
-
-pub reply_along : (minor version code found : ℕ) (fields pairs : List (List ℕ × List ℕ)) (n : ℕ)
-    → version ≡ minor → found ≡ code → pairs ≡ fields
-    → IsPlainReply minor code fields n → IsPlainReply version found pairs n
-reply_along minor version code found fields pairs n a b d reply =
-    subst (λ v. IsPlainReply v found pairs n) (sym a)
-    (subst (λ v. IsPlainReply minor v pairs n) (sym b) (subst (λ v. IsPlainReply minor code v n) (sym d) reply))
-
-pub request_along : (method method' target target' : List ℕ) (minor version : ℕ) (fields pairs : List (List ℕ × List ℕ))
-    → method' ≡ method → target' ≡ target → version ≡ minor → pairs ≡ fields
-    → IsPlainRequest method target minor fields → IsPlainRequest method' target' version pairs
-request_along method method' target target' minor version fields pairs a b d e request =
-    subst (λ v. IsPlainRequest v target' version pairs) (sym a)
-    (subst (λ v. IsPlainRequest method v version pairs) (sym b)
-    (subst (λ v. IsPlainRequest method target v pairs) (sym d)
-    (subst (λ v. IsPlainRequest method target minor v) (sym e) request)))
-
-pub few_fields : (fields : List Field) → length (fields_of fields) ≤ field_limit → length fields ≤ field_limit
-few_fields fields few = let same = length-map fields name_and_value in omega arith
 
 -- a list as long as its front has nothing behind it
 nothing_behind : (bytes printed rest : List ℕ) → bytes ≡ printed ++ rest → length bytes ≡ length printed → rest ≡ []

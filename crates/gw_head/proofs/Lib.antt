@@ -3,7 +3,6 @@ mod CheckLemmas
 mod CopyLemmas
 mod Examples
 mod FieldLemmas
-mod FrontLemmas
 mod GrammarEnd
 mod HeadLemmas
 mod LineLemmas

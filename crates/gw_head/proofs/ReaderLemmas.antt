@@ -40,9 +40,9 @@ ends_behind stream window place used reached end =
 pub gathers_whole : (stream piece kept : List ℕ) (place new : Place) (m used capacity : ℕ)
     → Leaves head_limit stream piece m → place_after Blank stream ≡ Some place → length stream < head_limit
     → scan_end place (take m piece) ≡ Some used → used ≤ length (take m piece)
-    → kept ≡ stream ++ take used (take m piece)
+    → kept ≡ stream ++ take used (take m piece) → head_limit ≤ capacity
     → Gathers stream piece (Whole used) kept new capacity
-gathers_whole stream piece kept place new m used capacity leaves reached short end within is =
+gathers_whole stream piece kept place new m used capacity leaves reached short end within is room =
     let cut = length-take m piece in
     let size : length kept ≡ length stream + used =
     ap length is ∙ length-append stream (take used (take m piece))
@@ -54,6 +54,7 @@ gathers_whole stream piece kept place new m used capacity leaves reached short e
         ended = ap head_end is ∙ ends_behind stream (take m piece) place used reached end ∙ ap Some (sym size);
         short = omega arith;
       },
+      room,
     )
 
 pub gathers_more : (stream piece kept : List ℕ) (place new : Place) (m capacity : ℕ)
@@ -83,9 +84,9 @@ pub gathers_too_long : (stream piece kept : List ℕ) (place new : Place) (m cap
     → Leaves head_limit stream piece m → place_after Blank stream ≡ Some place → length stream < head_limit
     → scan_end place (take m piece) ≡ None
     → kept ≡ stream ++ take (length (take m piece)) (take m piece)
-    → head_limit ≤ length kept
+    → head_limit ≤ length kept → head_limit ≤ capacity
     → Gathers stream piece TooLong kept new capacity
-gathers_too_long stream piece kept place new m capacity leaves reached short end is long =
+gathers_too_long stream piece kept place new m capacity leaves reached short end is long room =
     let all : kept ≡ stream ++ take m piece =
     is ∙ ap (λ t. stream ++ t) (take_all (length (take m piece)) (take m piece) (omega arith)) in
     let size : length kept ≡ length stream + length (take m piece) =
@@ -93,6 +94,7 @@ gathers_too_long stream piece kept place new m capacity leaves reached short end
     let cut = length-take m piece in (
       found_in head_limit m stream piece place None leaves (omega arith) reached end,
       omega (arith, length-append stream piece),
+      room,
     )
 
 -- what was appended, where the call succeeded with so many bytes

@@ -1,8 +1,8 @@
 -- The definitions of whole heads at worked examples.
 use Rattle.std.proofs.Common.{◌≡◌, true, false, [], ◌∷◌, ◌++◌, refl}
 use Rattle.std.specs.Prelude.{codes, Some, None}
-use Rattle.gw_head.specs.declared.whole.error.HeadError.TheVariants.{Version, HostCount, Coding}
-use Rattle.gw_head.specs.declared.whole.target.Form.TheVariants.{Absolute, Asterisk, Other}
+use Rattle.gw_head.specs.declared.error.HeadError.TheVariants.{Version, HostCount, Coding}
+use Rattle.gw_head.specs.declared.target.Form.TheVariants.{Absolute, Asterisk, Other}
 use Rattle.gw_head.specs.Host.{host_without_port}
 use Rattle.gw_head.specs.Lines.{first_line, line_count}
 use Rattle.gw_head.specs.Target.{form_of, authority_of, path_in, query_of, has_bad_escape}

@@ -2,17 +2,17 @@
 use Rattle.std.proofs.Common.{◌≡◌, ℕ, ◌≤◌, Bool, true, false, List, [], length, refl, sym, subst, arith, rules, inl, inr}
 use Rattle.std.specs.Prelude.{Some, None, Result, Ok, Err, nat_lt, if◌then◌else◌}
 use Rattle.httparse.specs.Grammar.{RequestHead as RequestParts, ReadsRequest, ResponseHead as ReplyParts, ReadsResponse, status_code}
-use Rattle.gw_head.specs.declared.whole.error.HeadError.{HeadError}
-use Rattle.gw_head.specs.declared.whole.error.HeadError.TheVariants.{Malformed, Version, TooManyFields}
-use Rattle.gw_head.specs.declared.whole.error.Refusal.{Refusal}
-use Rattle.gw_head.specs.declared.whole.error.Refusal.TheVariants.{Bad, NoMemory}
-use Rattle.gw_head.specs.declared.whole.request.RequestHead.{RequestHead}
-use Rattle.gw_head.specs.declared.whole.reply.ReplyHead.{ReplyHead}
+use Rattle.gw_head.specs.declared.error.HeadError.{HeadError}
+use Rattle.gw_head.specs.declared.error.HeadError.TheVariants.{Malformed, Version, TooManyFields}
+use Rattle.gw_head.specs.declared.error.Refusal.{Refusal}
+use Rattle.gw_head.specs.declared.error.Refusal.TheVariants.{Bad, NoMemory}
+use Rattle.gw_head.specs.declared.request.RequestHead.{RequestHead}
+use Rattle.gw_head.specs.declared.reply.ReplyHead.{ReplyHead}
 use Rattle.gw_head.specs.Fields.{fields_of}
-use Rattle.gw_head.specs.Head.{IsWhole}
+use Rattle.gw_head.specs.Mark.{IsWhole}
 use Rattle.gw_head.specs.Lines.{line_count}
 use Rattle.gw_head.specs.Checks.{request_fault, reply_fault, request_lines_fault, reply_lines_fault, has_other_request_version, has_other_reply_version, has_too_many_fields}
-use Rattle.gw_head.specs.Whole.{request_head_of, reply_head_of, RequestHeadOf, BadRequestHead, BadRequestBy, ReplyHeadOf, BadReplyHead, BadReplyBy, Judges, JudgesParts}
+use Rattle.gw_head.specs.Head.{request_head_of, reply_head_of, RequestHeadOf, BadRequestHead, BadRequestBy, ReplyHeadOf, BadReplyHead, BadReplyBy, Judges, JudgesParts}
 use Rattle.gw_head.proofs.LineLemmas.{request_lines, reply_lines}
 
 -- ---- the number of the fields

@@ -5,10 +5,10 @@ use Rattle.std.specs.List.{list_any, list_all}
 use Rattle.std.specs.Char.{is_ascii_digit}
 use Rattle.std.specs.Str.{str_eq_ignore_ascii_case}
 use Rattle.std.specs.Str.Parse.{digits_value}
-use Rattle.gw_head.specs.declared.whole.error.HeadError.{HeadError}
-use Rattle.gw_head.specs.declared.whole.error.HeadError.TheVariants.{Malformed, TooManyFields, Version, HostCount, BadLength, LengthAndCoding, Coding, BadEscape, Connect, Expectation}
-use Rattle.gw_head.specs.declared.whole.target.Form.{Form}
-use Rattle.gw_head.specs.declared.whole.target.Form.TheVariants.{Origin, Absolute, Asterisk, Other}
+use Rattle.gw_head.specs.declared.error.HeadError.{HeadError}
+use Rattle.gw_head.specs.declared.error.HeadError.TheVariants.{Malformed, TooManyFields, Version, HostCount, BadLength, LengthAndCoding, Coding, BadEscape, Connect, Expectation}
+use Rattle.gw_head.specs.declared.target.Form.{Form}
+use Rattle.gw_head.specs.declared.target.Form.TheVariants.{Origin, Absolute, Asterisk, Other}
 use Rattle.gw_head.specs.Fields.{values_named}
 use Rattle.gw_head.specs.Lines.{first_line, has_too_many_lines, begins_with_other_version, ends_with_other_version}
 use Rattle.gw_head.specs.Target.{form_of, authority_in, path_in, has_bad_escape}

@@ -4,7 +4,7 @@ use Rattle.gw_head.specs.declared.mark.Place.{Place}
 use Rattle.gw_head.specs.declared.mark.Place.TheVariants.{Blank}
 use Rattle.gw_head.specs.declared.reader.Gathered.{Gathered}
 use Rattle.gw_head.specs.declared.reader.Gathered.TheVariants.{More, Whole, TooLong}
-use Rattle.gw_head.specs.Head.{IsWhole}
+use Rattle.gw_head.specs.Mark.{IsWhole}
 use Rattle.gw_head.specs.Mark.{head_limit, end_in_limit}
 use Rattle.gw_head.specs.Scan.{place_after}
 
@@ -20,6 +20,6 @@ Gathers stream piece More kept place capacity =
     (end_in_limit (stream ++ piece) ≡ None) × (kept ≡ stream ++ piece) × IsReading kept place capacity
 Gathers stream piece (Whole used) kept place capacity =
     (end_in_limit (stream ++ piece) ≡ Some (length stream + used)) × (used ≤ length piece)
-    × (kept ≡ stream ++ take used piece) × IsWhole kept
+    × (kept ≡ stream ++ take used piece) × IsWhole kept × (head_limit ≤ capacity)
 Gathers stream piece TooLong kept place capacity =
-    (end_in_limit (stream ++ piece) ≡ None) × (head_limit ≤ length (stream ++ piece))
+    (end_in_limit (stream ++ piece) ≡ None) × (head_limit ≤ length (stream ++ piece)) × (head_limit ≤ capacity)

@@ -1,9 +1,8 @@
 -- Laws of the end mark and of heads.
 use Rattle.std.specs.Prelude.{◌≡◌, ℕ, List, [], ◌++◌, length, Some}
 use Rattle.httparse.specs.Grammar.{RequestHead as RequestParts, print_request, ReadsRequest, ResponseHead as ReplyParts, print_response, ReadsResponse}
-use Rattle.gw_head.specs.declared.reply.ReplyHead.{ReplyHead}
-use Rattle.gw_head.specs.declared.request.RequestHead.{RequestHead}
-use Rattle.gw_head.specs.Head.{RequestHeadOf, ReplyHeadOf}
+use Rattle.gw_head.specs.declared.error.HeadError.{HeadError}
+use Rattle.gw_head.specs.Head.{RequestHeadOf, BadRequestHead, ReplyHeadOf, BadReplyHead}
 use Rattle.gw_head.specs.Mark.{head_end}
 
 -- a request's head of the grammar, whatever follows, ends with the end mark
@@ -23,14 +22,27 @@ abbrev pub MarkStays : Type 0
 MarkStays =
     (front more : List ℕ) (n : ℕ) → head_end front ≡ Some n → head_end (front ++ more) ≡ Some n
 
--- no request's head is a proper front of another
-abbrev pub NoRequestBeginsAnother : Type 0
-NoRequestBeginsAnother =
-    (front more : List ℕ) (head other : RequestHead)
-    → RequestHeadOf front head → RequestHeadOf (front ++ more) other → more ≡ []
+-- bytes have one head, or one error, and not both
+pub record HasOneAnswer
+    {H : Type 0} (HeadOf : List ℕ → H → Type 0) (BadHead : List ℕ → HeadError → Type 0) : Type 0 where
+  pub heads : (bytes : List ℕ) (head other : H) → HeadOf bytes head → HeadOf bytes other → head ≡ other
+  pub errors : (bytes : List ℕ) (error other : HeadError) → BadHead bytes error → BadHead bytes other
+      → error ≡ other
+  pub apart : (bytes : List ℕ) (head : H) (error : HeadError) → HeadOf bytes head → BadHead bytes error → ⊥
 
--- the same of replies
+abbrev pub OneRequestAnswer : Type 0
+OneRequestAnswer = HasOneAnswer RequestHeadOf BadRequestHead
+
+abbrev pub OneReplyAnswer : Type 0
+OneReplyAnswer = HasOneAnswer ReplyHeadOf BadReplyHead
+
+-- no head is a proper front of another
+abbrev pub IsPrefixFree : {H : Type 0} → (List ℕ → H → Type 0) → Type 0
+IsPrefixFree {H} HeadOf =
+    (front more : List ℕ) (head other : H) → HeadOf front head → HeadOf (front ++ more) other → more ≡ []
+
+abbrev pub NoRequestBeginsAnother : Type 0
+NoRequestBeginsAnother = IsPrefixFree RequestHeadOf
+
 abbrev pub NoReplyBeginsAnother : Type 0
-NoReplyBeginsAnother =
-    (front more : List ℕ) (head other : ReplyHead)
-    → ReplyHeadOf front head → ReplyHeadOf (front ++ more) other → more ≡ []
+NoReplyBeginsAnother = IsPrefixFree ReplyHeadOf

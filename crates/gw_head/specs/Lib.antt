@@ -1,7 +1,6 @@
 pub mod Checks
 pub mod Copies
 pub mod Fields
-pub mod Front
 pub mod Gather
 pub mod Head
 pub mod Host
@@ -13,5 +12,3 @@ pub mod Scan
 pub mod Stage
 pub mod Take
 pub mod Target
-pub mod Whole
-pub mod WholeLaws

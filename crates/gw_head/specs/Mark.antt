@@ -1,7 +1,7 @@
 -- Where the head of an HTTP/1.x message ends: with the first empty line behind its start line
 -- (RFC 9112, sections 2.1 and 2.2). A line ends in LF, which may have a CR before it, and empty
 -- lines before the start line are passed over.
-use Rattle.std.specs.Prelude.{ℕ, suc, take, List, [], ◌∷◌, Bool, false, ◌&&◌, ◌==◌, if◌then◌else◌, Option, Some, None}
+use Rattle.std.specs.Prelude.{◌≡◌, ◌≤◌, ℕ, suc, length, take, List, [], ◌∷◌, Bool, false, ◌&&◌, ◌==◌, if◌then◌else◌, Option, Some, None}
 use Rattle.std.specs.Option.{option_map, option_or}
 use Rattle.httparse.specs.Ascii.{line_feed, carriage_return}
 use Rattle.httparse.specs.Pieces.{is_newline}
@@ -36,3 +36,8 @@ head_limit = 65536
 -- how many bytes the head has, if it ends within the limit
 abbrev pub end_in_limit : List ℕ → Option ℕ
 end_in_limit bytes = head_end (take head_limit bytes)
+
+-- the bytes are a whole head and nothing more, and no longer than a head may be
+pub record IsWhole (bytes : List ℕ) : Type 0 where
+  pub ended : head_end bytes ≡ Some (length bytes)
+  pub short : length bytes ≤ head_limit

@@ -4,8 +4,8 @@ use Rattle.std.specs.Borrow.{Bor}
 use Rattle.std.specs.List.{before_first, position_or_len}
 use Rattle.std.specs.Char.{is_ascii_hexdigit}
 use Rattle.std.specs.Str.{str_eq_ignore_ascii_case}
-use Rattle.gw_head.specs.declared.whole.target.Form.{Form}
-use Rattle.gw_head.specs.declared.whole.target.Form.TheVariants.{Origin, Absolute, Asterisk, Other}
+use Rattle.gw_head.specs.declared.target.Form.{Form}
+use Rattle.gw_head.specs.declared.target.Form.TheVariants.{Origin, Absolute, Asterisk, Other}
 use Rattle.gw_head.specs.Pieces.{has_byte, before, after}
 
 -- the word stands at the front, without case

@@ -1,10 +1,16 @@
 //! Laws of the definitions, each the contract of a function that does nothing.
-ghost use Rattle.gw_head.specs.Laws.{RequestEndsAtMark, ReplyEndsAtMark, MarkStays, NoRequestBeginsAnother, NoReplyBeginsAnother};
+ghost use Rattle.gw_head.specs.Laws.{RequestEndsAtMark, ReplyEndsAtMark, MarkStays, OneRequestAnswer, OneReplyAnswer, NoRequestBeginsAnother, NoReplyBeginsAnother};
 
 /// A head that the grammar of `httparse` reads at the front of some bytes ends with the end mark of those bytes.
 pub fn grammar_ends_at_mark()
     ensures requests { RequestEndsAtMark }
     ensures replies { ReplyEndsAtMark }
+{}
+
+/// Bytes have one head, or one first check that they fail, and not both.
+pub fn heads_have_one_answer()
+    ensures requests { OneRequestAnswer }
+    ensures replies { OneReplyAnswer }
 {}
 
 /// The end mark of some bytes stays where it is, whatever follows them. So no head is the front of another.

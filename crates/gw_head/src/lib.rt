@@ -3,28 +3,30 @@
 //! and not on how they were cut.
 #![tactic(auto)]
 
+mod checks;
+mod copies;
 mod error;
+mod field_lines;
 mod fields;
+mod framing;
 mod host;
 mod laws;
+mod lines;
 mod mark;
 mod pieces;
 mod reader;
 mod reply;
 mod request;
-mod whole;
+mod target;
 
 pub use error::{HeadError, NoMemory};
+pub use framing::Framing;
 pub use host::strip_port;
-pub use laws::{grammar_ends_at_mark, no_head_begins_another};
+pub use laws::{grammar_ends_at_mark, heads_have_one_answer, no_head_begins_another};
 pub use reader::{Fed, HeadReader, Step};
 pub use reply::ReplyHead;
 pub use request::RequestHead;
-pub use whole::{
-    Framing, HeadError as WholeError, Refusal, ReplyHead as WholeReply,
-    RequestHead as WholeRequest, head_at_front, heads_have_one_answer, judge_reply, judge_request,
-    no_whole_head_begins_another,
-};
+pub use target::{has_bad_escape, split_target};
 
 #[cfg(test)]
 mod tests;

@@ -1,17 +1,17 @@
 //! The reader, which keeps the bytes of a head that hasn't ended.
-ghost use Rattle.std.specs.Prelude.{◌≡◌, IfOk, [], vec_capacity};
+ghost use Rattle.std.specs.Prelude.{◌≡◌, ◌≤◌, IfOk, [], vec_capacity};
+ghost use Rattle.gw_head.specs.declared.error.HeadError.TheVariants.{Malformed};
 ghost use Rattle.gw_head.specs.Head.{RequestHeadOf, BadRequestHead, ReplyHeadOf, BadReplyHead};
 ghost use Rattle.gw_head.specs.Gather.{Gathers, IsReading};
-ghost use Rattle.gw_head.specs.Stage.{reads, Feeds};
-ghost use Rattle.gw_head.specs.Take.{Takes};
+ghost use Rattle.gw_head.specs.Stage.{reads, closed, bytes_of, Feeds};
+ghost use Rattle.gw_head.specs.Take.{Takes, Concludes};
 
-use crate::error::{HeadError, NoMemory};
+use crate::error::{HeadError, NoMemory, Refusal};
 use crate::mark::{Place, scan};
-use crate::reply::{ReplyHead, read_reply};
-use crate::request::{RequestHead, read_request};
+use crate::reply::{ReplyHead, judge_reply};
+use crate::request::{RequestHead, judge_request};
 use std::alloc::Global;
 use std::marker::Model;
-use std::mem;
 
 /// The most bytes that a head may have.
 pub(crate) const HEAD_LIMIT: usize = 65_536;
@@ -70,14 +70,14 @@ enum Taken {
     Closed(HeadError),
     /// Nothing is decided yet.
     More,
-    /// These bytes are whole; so many bytes of the piece belong to them.
-    Whole(usize, Vec<u8>),
+    /// The head is whole; so many bytes of the piece belong to it.
+    Whole(usize),
     /// There is no end within the limit.
     TooLong,
 }
 
-/// A reader of one head, fed with the pieces of a stream. Contracts see its stage: the stream so far, or why
-/// it is closed.
+/// A reader of one head at a time, fed with the pieces of a stream. Contracts see its stage: the stream so far, or why
+/// it is closed and the bytes that it has.
 #[derive(Drop)]
 pub struct HeadReader {
     kept: Vec<u8>,
@@ -112,9 +112,27 @@ impl HeadReader {
         })
     }
 
+    /// Begins a new head, of which nothing was seen. It keeps its room, and takes no memory.
+    pub fn restart(&mut self)
+        ensures { self.new ≡ reads [] }
+    {
+        self.kept.clear();
+        self.place = Place::Blank;
+        self.closed = None;
+    }
+
+    /// The bytes that the reader has: all so far of a head that hasn't ended, and all of a head that it gave, up to and
+    /// with its end mark.
+    pub fn bytes(&self) -> &[u8]
+        ensures { result.now ≡ bytes_of self.now }
+    {
+        self.kept.as_slice()
+    }
+
     /// Takes the next piece of a stream that begins with a request's head. `More` uses the whole piece. `Head`,
-    /// `Bad` and `NoMemory` use it up to the head's end, and `Bad` all of it where 65,536 bytes have no end. After
-    /// these three the reader is closed: it uses nothing of a later piece, and answers `Bad`.
+    /// `Bad` and `NoMemory` use it up to the head's end, and `Bad` all of it where 65,536 bytes have no end (H2). The
+    /// error is that of the first check that the head fails. After these three the reader is closed: it uses nothing of
+    /// a later piece, and answers `Bad` with its last error, or H1, until it is restarted.
     pub fn feed_request(&mut self, piece: &[u8]) -> Fed<RequestHead>
         ensures { Feeds RequestHeadOf BadRequestHead self.old piece.now result self.new }
     {
@@ -127,21 +145,21 @@ impl HeadReader {
                 used: piece.len(),
                 step: Step::More,
             },
-            Taken::Whole(used, bytes) => Fed {
-                used,
-                step: match read_request(bytes) {
-                    Ok(head) => Step::Head(head),
-                    Err(error) => Step::Bad(error),
-                },
-            },
+            Taken::Whole(used) => {
+                let judged = judge_request(self.alloc, self.bytes());
+                Fed {
+                    used,
+                    step: self.conclude(judged),
+                }
+            }
             Taken::TooLong => Fed {
                 used: piece.len(),
-                step: Step::Bad(HeadError::Malformed),
+                step: Step::Bad(HeadError::TooLong),
             },
         }
     }
 
-    /// Takes the next piece of a stream that begins with a reply's head; what it uses is as for a request.
+    /// Takes the next piece of a stream that begins with a reply's head; what it uses and answers is as for a request.
     pub fn feed_reply(&mut self, piece: &[u8]) -> Fed<ReplyHead>
         ensures { Feeds ReplyHeadOf BadReplyHead self.old piece.now result self.new }
     {
@@ -154,16 +172,16 @@ impl HeadReader {
                 used: piece.len(),
                 step: Step::More,
             },
-            Taken::Whole(used, bytes) => Fed {
-                used,
-                step: match read_reply(bytes) {
-                    Ok(head) => Step::Head(head),
-                    Err(error) => Step::Bad(error),
-                },
-            },
+            Taken::Whole(used) => {
+                let judged = judge_reply(self.alloc, self.bytes());
+                Fed {
+                    used,
+                    step: self.conclude(judged),
+                }
+            }
             Taken::TooLong => Fed {
                 used: piece.len(),
-                step: Step::Bad(HeadError::Malformed),
+                step: Step::Bad(HeadError::TooLong),
             },
         }
     }
@@ -179,12 +197,27 @@ impl HeadReader {
             Gathered::More => Taken::More,
             Gathered::Whole(used) => {
                 self.closed = Some(HeadError::Malformed);
-                Taken::Whole(used, mem::replace(&mut self.kept, Vec::new(self.alloc)))
+                Taken::Whole(used)
             }
             Gathered::TooLong => {
-                self.closed = Some(HeadError::Malformed);
+                self.closed = Some(HeadError::TooLong);
                 Taken::TooLong
             }
+        }
+    }
+
+    /// What is answered of a whole head that was judged so.
+    fn conclude<H: Drop>(&mut self, judged: Result<H, Refusal>) -> Step<H>
+        requires { self.old ≡ closed Malformed (bytes_of self.old) }
+        ensures { Concludes judged (bytes_of self.old) result self.new }
+    {
+        match judged {
+            Ok(head) => Step::Head(head),
+            Err(Refusal::Bad(error)) => {
+                self.closed = Some(error);
+                Step::Bad(error)
+            }
+            Err(Refusal::NoMemory) => Step::NoMemory,
         }
     }
 }

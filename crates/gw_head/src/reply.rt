@@ -1,77 +1,92 @@
 //! The heads of replies.
-ghost use Rattle.std.specs.Prelude.{◌≡◌, ◌≤◌, ◌↔◌, ℕ, All, IsTrue, MatchOption, MatchResult, map, length};
-ghost use Rattle.httparse.specs.Spans.{IsHeaderWithin, header_bytes};
-ghost use Rattle.gw_head.specs.Head.{IsWhole, IsPlainCode, IsPlainReply, IsReply, ReplyHeadOf, BadReplyHead};
+ghost use Rattle.std.specs.Prelude.{◌≡◌, None, IfOk};
+ghost use Rattle.gw_head.specs.Mark.{IsWhole};
+ghost use Rattle.gw_head.specs.Checks.{reply_fault};
+ghost use Rattle.gw_head.specs.Head.{reply_head_of, ReplyHeadOf, BadReplyHead, Judges, JudgesParts};
 
-use crate::error::HeadError;
-use crate::fields::{FIELD_LIMIT, count_named, only_value, read_length};
-use gw_wire::Bytes;
+use crate::checks::reply_fault;
+use crate::error::{HeadError, NoMemory, Refusal};
+use crate::field_lines::FieldLines;
+use crate::fields::FIELD_LIMIT;
+use crate::framing::length_of;
+use crate::lines::reply_lines_fault;
+use gw_fields::Fields;
 use httparse::Status;
-use httparse::spans::{EMPTY_HEADER_SPAN, HeaderSpan, parse_response};
+use httparse::spans::{EMPTY_HEADER_SPAN, parse_response};
+use std::alloc::Global;
 
-/// The head of a plain reply: a final answer of HTTP/1.1 that has a body of a given length.
+/// The head of a reply (RFC 9112, section 4).
 #[derive(Debug, Drop)]
 pub struct ReplyHead {
-    /// The head as it was read, up to and with its end mark: at most 65,536 bytes. The buffer is the reader's own.
-    pub bytes: Bytes,
-    /// The status code: 200 to 599, other than 204 and 304.
+    /// The status code: 100 to 999.
     pub code: u16,
-    /// How many bytes the body has: at most 2^63 - 1.
-    pub length: u64,
+    /// Whether the version is HTTP/1.0.
+    pub old: bool,
+    /// The fields in their order, their values without the blanks around them.
+    pub fields: Fields,
+    /// Whether `Connection` has the token `close`.
+    pub close: bool,
+    /// The number that Content-Length writes: at most 2^63 - 1.
+    pub length: Option<u64>,
+    /// Whether the body is in chunks.
+    pub chunked: bool,
 }
 
-/// The head that the bytes are, up to their end mark.
-pub(crate) fn read_reply(bytes: Vec<u8>) -> Result<ReplyHead, HeadError>
-    requires { IsWhole bytes.items }
-    ensures { MatchResult result (ReplyHeadOf bytes.items) (BadReplyHead bytes.items) }
+/// Judges the bytes of one head up to and with its end mark: the reply's head, or the first check that fails, or that
+/// there was no memory for a good head.
+pub(crate) fn judge_reply(alloc: Global, head: &[u8]) -> Result<ReplyHead, Refusal>
+    requires { IsWhole head.now }
+    ensures { Judges ReplyHeadOf BadReplyHead head.now result }
 {
-    match code_and_length(bytes.as_slice()) {
-        Some((code, length)) => Ok(ReplyHead {
-            bytes: Bytes::new(bytes),
-            code,
-            length,
-        }),
-        None => Err(HeadError::Malformed),
+    if let Some(fault) = reply_lines_fault(head) {
+        return Err(Refusal::Bad(fault));
     }
-}
-
-/// The code and the length of the body, where the bytes up to an end mark are the head of a plain reply.
-fn code_and_length(bytes: &[u8]) -> Option<(u16, u64)>
-    requires { IsWhole bytes.now }
-    ensures { MatchOption result ((code n : ℕ) → IsReply bytes.now code n → ⊥)
-        (λ found. IsReply bytes.now found.0 found.1) }
-{
     let mut spans = [EMPTY_HEADER_SPAN; FIELD_LIMIT];
-    match parse_response(bytes, &mut spans) {
-        Ok(Status::Complete(head)) => {
-            match plain_length(head.version, head.code, bytes, &spans[..head.headers]) {
-                Some(length) => Some((head.code, length)),
-                None => None,
-            }
+    match parse_response(head, &mut spans) {
+        Ok(Status::Complete(found)) => {
+            let fields = FieldLines::new(head, &spans[..found.headers]);
+            judge_parts(alloc, found.version, found.code, &fields)
         }
-        _ => None,
+        Ok(Status::Partial) => Err(Refusal::Bad(HeadError::Malformed)),
+        Err(_) => Err(Refusal::Bad(HeadError::Malformed)),
     }
 }
 
-/// The length of the body, where these are the parts of a plain reply.
-fn plain_length(version: u8, code: u16, bytes: &[u8], fields: &[HeaderSpan]) -> Option<u64>
-    requires within { All (IsHeaderWithin (length bytes.now)) fields.now }
-    requires few { length fields.now ≤ FIELD_LIMIT }
-    ensures { MatchOption result
-        ((n : ℕ) → IsPlainReply version code (map (header_bytes bytes.now) fields.now) n → ⊥)
-        (IsPlainReply version code (map (header_bytes bytes.now) fields.now)) }
+fn judge_parts(
+    alloc: Global,
+    minor: u8,
+    code: u16,
+    fields: &FieldLines<'_>,
+) -> Result<ReplyHead, Refusal>
+    ensures { JudgesParts (reply_fault minor code fields.now) (reply_head_of minor code fields.now) result }
 {
-    if version != 1 || !is_plain_code(code) {
-        return None;
+    if let Some(fault) = reply_fault(minor, code, fields) {
+        return Err(Refusal::Bad(fault));
     }
-    if count_named(bytes, fields, b"transfer-encoding") != 0 {
-        return None;
+    match copy_head(alloc, minor, code, fields) {
+        Ok(head) => Ok(head),
+        Err(_) => Err(Refusal::NoMemory),
     }
-    read_length(only_value(bytes, fields, b"content-length")?)
 }
 
-fn is_plain_code(code: u16) -> bool
-    ensures { IsTrue result ↔ IsPlainCode code }
+// The head that these parts make.
+fn copy_head(
+    alloc: Global,
+    minor: u8,
+    code: u16,
+    fields: &FieldLines<'_>,
+) -> Result<ReplyHead, NoMemory>
+    requires { reply_fault minor code fields.now ≡ None }
+    ensures { IfOk result (λ head. head ≡ reply_head_of minor code fields.now) }
 {
-    (200..=599).contains(&code) && code != 204 && code != 304
+    let copied = fields.copy(alloc)?;
+    let close = copied.has_token(b"connection", b"close");
+    Ok(ReplyHead {
+        code,
+        old: minor == 0,
+        fields: copied,
+        close,
+        length: length_of(fields),
+        chunked: fields.count_named(b"transfer-encoding") != 0,
+    })
 }

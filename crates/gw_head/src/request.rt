@@ -1,130 +1,138 @@
 //! The heads of requests.
-ghost use Rattle.std.specs.Prelude.{◌≡◌, ◌<◌, ◌≤◌, ◌↔◌, All, EachIndex, IsTrue, MatchResult, codes, map, length, slice_index};
-ghost use Rattle.std.specs.Char.{is_ascii_hexdigit};
-ghost use Rattle.httparse.specs.Spans.{IsHeaderWithin, header_bytes};
-ghost use Rattle.gw_head.specs.Head.{IsWhole, IsEscapeAt, IsPlainTarget, HasPlainFields, IsPlainRequest, IsRequest, RequestHeadOf, BadRequestHead};
+ghost use Rattle.std.specs.Prelude.{◌≡◌, None, IfOk};
+ghost use Rattle.http_header.specs.Token.{IsToken};
+ghost use Rattle.gw_head.specs.Mark.{IsWhole};
+ghost use Rattle.gw_head.specs.Checks.{request_fault, hosts_of};
+ghost use Rattle.gw_head.specs.Head.{host_in, is_star, request_head_of, RequestHeadOf, BadRequestHead, Judges, JudgesParts};
 
-use crate::error::HeadError;
-use crate::fields::{FIELD_LIMIT, count_named};
+use crate::checks::{host_value, request_fault};
+use crate::copies::{copy_bytes, copy_method, copy_query};
+use crate::error::{HeadError, NoMemory, Refusal};
+use crate::field_lines::FieldLines;
+use crate::fields::FIELD_LIMIT;
+use crate::framing::{Framing, framing_of};
+use crate::lines::request_lines_fault;
+use crate::target::{Form, authority_in, form_of, path_in, query_in};
+use gw_fields::Fields;
 use gw_wire::Bytes;
+use http::Method;
 use httparse::Status;
-use httparse::spans::{EMPTY_HEADER_SPAN, HeaderSpan, parse_request};
+use httparse::spans::{EMPTY_HEADER_SPAN, parse_request};
+use std::alloc::Global;
 
-/// The head of a plain request: a GET of HTTP/1.1 with one Host, a target in origin form and no body.
+/// The head of a request (RFC 9112, section 3).
 #[derive(Debug, Drop)]
 pub struct RequestHead {
-    /// The head as it was read, up to and with its end mark: at most 65,536 bytes. The buffer is the reader's own.
-    pub bytes: Bytes,
+    pub method: Method,
+    /// The authority of the target, or else the value of Host, with its port; empty where neither was sent.
+    pub host: Bytes,
+    /// The path as it was sent; empty for `*` alone.
+    pub path: Bytes,
+    /// What stands behind the first `?`.
+    pub query: Option<Bytes>,
+    /// Whether the target is `*`.
+    pub star: bool,
+    /// Whether the version is HTTP/1.0.
+    pub old: bool,
+    /// The fields in their order, their values without the blanks around them.
+    pub fields: Fields,
+    /// How the body is framed.
+    pub framing: Framing,
+    /// Whether `100-continue` is expected (RFC 9110, section 10.1.1).
+    pub expect: bool,
+    /// Whether `Connection` has the token `close`.
+    pub close: bool,
 }
 
-/// The head that the bytes are, up to their end mark.
-pub(crate) fn read_request(bytes: Vec<u8>) -> Result<RequestHead, HeadError>
-    requires { IsWhole bytes.items }
-    ensures { MatchResult result (RequestHeadOf bytes.items) (BadRequestHead bytes.items) }
+/// Judges the bytes of one head up to and with its end mark: the request's head, or the first check that fails, or
+/// that there was no memory for a good head.
+pub(crate) fn judge_request(alloc: Global, head: &[u8]) -> Result<RequestHead, Refusal>
+    requires { IsWhole head.now }
+    ensures { Judges RequestHeadOf BadRequestHead head.now result }
 {
-    if is_request(bytes.as_slice()) {
-        Ok(RequestHead {
-            bytes: Bytes::new(bytes),
-        })
-    } else {
-        Err(HeadError::Malformed)
+    if let Some(fault) = request_lines_fault(head) {
+        return Err(Refusal::Bad(fault));
     }
-}
-
-/// Whether the bytes up to an end mark are the head of a plain request.
-fn is_request(bytes: &[u8]) -> bool
-    requires { IsWhole bytes.now }
-    ensures { IsTrue result ↔ IsRequest bytes.now }
-{
     let mut spans = [EMPTY_HEADER_SPAN; FIELD_LIMIT];
-    match parse_request(bytes, &mut spans) {
-        Ok(Status::Complete(head)) => is_plain_request(
-            head.method.of(bytes),
-            head.path.of(bytes),
-            head.version,
-            bytes,
-            &spans[..head.headers],
-        ),
-        _ => false,
+    match parse_request(head, &mut spans) {
+        Ok(Status::Complete(found)) => {
+            let fields = FieldLines::new(head, &spans[..found.headers]);
+            judge_parts(
+                alloc,
+                found.method.of(head),
+                found.path.of(head),
+                found.version,
+                &fields,
+            )
+        }
+        Ok(Status::Partial) => Err(Refusal::Bad(HeadError::Malformed)),
+        Err(_) => Err(Refusal::Bad(HeadError::Malformed)),
     }
 }
 
-fn is_plain_request(
+fn judge_parts(
+    alloc: Global,
     method: &[u8],
     target: &[u8],
-    version: u8,
-    bytes: &[u8],
-    fields: &[HeaderSpan],
-) -> bool
-    requires within { All (IsHeaderWithin (length bytes.now)) fields.now }
-    requires few { length fields.now ≤ FIELD_LIMIT }
-    ensures { IsTrue result
-        ↔ IsPlainRequest method.now target.now version (map (header_bytes bytes.now) fields.now) }
+    minor: u8,
+    fields: &FieldLines<'_>,
+) -> Result<RequestHead, Refusal>
+    requires { IsToken method.now }
+    ensures { JudgesParts (request_fault method.now target.now minor fields.now)
+        (request_head_of method.now target.now minor fields.now) result }
 {
-    if !is_get(method) || version != 1 {
-        return false;
+    if let Some(fault) = request_fault(method, target, minor, fields) {
+        return Err(Refusal::Bad(fault));
     }
-    is_plain_target(target) && has_plain_fields(bytes, fields)
+    match copy_head(alloc, method, target, minor, fields) {
+        Ok(head) => Ok(head),
+        Err(_) => Err(Refusal::NoMemory),
+    }
 }
 
-fn is_get(method: &[u8]) -> bool
-    ensures { IsTrue result ↔ (method.now ≡ codes "GET") }
+// The head that these parts make.
+fn copy_head(
+    alloc: Global,
+    method: &[u8],
+    target: &[u8],
+    minor: u8,
+    fields: &FieldLines<'_>,
+) -> Result<RequestHead, NoMemory>
+    requires token { IsToken method.now }
+    requires good { request_fault method.now target.now minor fields.now ≡ None }
+    ensures { IfOk result (λ head. head ≡ request_head_of method.now target.now minor fields.now) }
 {
-    method == b"GET".as_slice()
+    let form = form_of(method, target);
+    let copied = fields.copy(alloc)?;
+    let close = copied.has_token(b"connection", b"close");
+    Ok(RequestHead {
+        method: copy_method(alloc, method)?,
+        host: copy_bytes(alloc, host_in(form, target, fields))?,
+        path: copy_bytes(alloc, path_in(form, target))?,
+        query: copy_query(alloc, form, target)?,
+        star: is_star(form),
+        old: minor == 0,
+        fields: copied,
+        framing: framing_of(fields),
+        expect: fields.count_named(b"expect") != 0,
+        close,
+    })
 }
 
-/// Whether there is one Host, and no field that changes framing, connection or expectation.
-fn has_plain_fields(bytes: &[u8], fields: &[HeaderSpan]) -> bool
-    requires { All (IsHeaderWithin (length bytes.now)) fields.now }
-    ensures { IsTrue result ↔ HasPlainFields (map (header_bytes bytes.now) fields.now) }
+fn host_in<'b>(form: Form, target: &'b [u8], fields: &FieldLines<'b>) -> &'b [u8]
+    ensures { result.now ≡ host_in form target.now (hosts_of fields.now) }
 {
-    if count_named(bytes, fields, b"host") != 1 {
-        return false;
+    match form {
+        Form::Absolute => authority_in(form, target),
+        Form::Origin | Form::Asterisk | Form::Other => host_value(fields),
     }
-    if count_named(bytes, fields, b"content-length") != 0 {
-        return false;
-    }
-    if count_named(bytes, fields, b"transfer-encoding") != 0 {
-        return false;
-    }
-    if count_named(bytes, fields, b"expect") != 0 {
-        return false;
-    }
-    if count_named(bytes, fields, b"upgrade") != 0 {
-        return false;
-    }
-    count_named(bytes, fields, b"connection") == 0
 }
 
-/// Whether the target is in origin form, without a fragment, and each '%' in it begins an escape.
-fn is_plain_target(target: &[u8]) -> bool
-    ensures { IsTrue result ↔ IsPlainTarget target.now }
+fn is_star(form: Form) -> bool
+    ensures { result ≡ is_star form }
 {
-    !target.is_empty() && target[0] == b'/' && !target.contains(&b'#') && has_valid_escapes(target)
-}
-
-fn has_valid_escapes(target: &[u8]) -> bool
-    ensures { IsTrue result ↔ EachIndex target.now (IsEscapeAt target.now) }
-{
-    for i in 0..target.len() {
-        if !is_escape_at(target, i) {
-            return false;
-        }
+    match form {
+        Form::Asterisk => true,
+        Form::Origin | Form::Absolute | Form::Other => false,
     }
-    true
-}
-
-/// Whether the byte at `i` is no '%', or begins an escape.
-fn is_escape_at(target: &[u8], i: usize) -> bool
-    requires { i < length target.now }
-    ensures { IsTrue result ↔ IsEscapeAt target.now i }
-{
-    target[i] != b'%' || (has_hexdigit(target, i + 1) && has_hexdigit(target, i + 2))
-}
-
-/// Whether a hexadecimal digit stands at `i`.
-fn has_hexdigit(bytes: &[u8], i: usize) -> bool
-    ensures { result ≡ is_ascii_hexdigit (slice_index bytes.now i) }
-{
-    i < bytes.len() && bytes[i].is_ascii_hexdigit()
 }

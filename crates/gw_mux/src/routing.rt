@@ -1,10 +1,10 @@
 //! The router.
-ghost use Rattle.std.specs.Prelude.{◌≡◌, ◌<◌, IfOk, MatchResult, length};
+ghost use Rattle.std.specs.Prelude.{◌≡◌, ◌<◌, ◌≤◌, IfOk, MatchOption, MatchResult, length};
 ghost use Rattle.gw_pattern.specs.Path.{IsClean};
 ghost use Rattle.gw_sets.specs.Comparison.{bytes_of};
 ghost use Rattle.gw_mux.specs.Allow.{IsAllow};
 ghost use Rattle.gw_mux.specs.Answer.{Decides, Finds, Refuses, RefusesMethod, TookSpans, adds_slash};
-ghost use Rattle.gw_mux.specs.Table.{ArePatterns, HasNoConflict, IsTable};
+ghost use Rattle.gw_mux.specs.Table.{ArePatterns, HasNoConflict, IsAt, IsTable};
 
 use crate::allowed::{allowed, is_served};
 use crate::answer::{Decision, Found, Hit, MuxError};
@@ -50,6 +50,13 @@ impl Mux {
             });
         }
         Ok(Mux { patterns })
+    }
+
+    /// The pattern of that number, counted from 0; `None` exactly where there are no more. Takes no memory.
+    pub fn pattern(&self, number: u32) -> Option<&Pattern>
+        ensures { MatchOption result (length self.now ≤ number) (λ p. IsAt self.now number p.now) }
+    {
+        self.patterns.get(number as usize)
     }
 
     /// The best pattern for a clean path, with what its named wildcards take; or that the path with a slash more has

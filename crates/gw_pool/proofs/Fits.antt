@@ -10,7 +10,7 @@ use Rattle.gw_pool.specs.declared.rows.ConnRow.{ConnRow}
 use Rattle.gw_pool.specs.declared.rows.DialRow.{DialRow}
 use Rattle.gw_pool.specs.Places.{is_granted, is_out_by}
 use Rattle.gw_pool.specs.State.{State, wants_it, dials_for, has_number, is_with}
-use Rattle.gw_pool.specs.Machine.{Outcome, when, units, step, want_step, start_by, start_row, dialed_by, dialed_row, failed_by, failed_row, cancel_by, cancel_out, cancel_row, cancel_conn, drop_by, drop_row}
+use Rattle.gw_pool.specs.Machine.{Outcome, when, units, step, want_step, start_by, start_row, dialed_by, dialed_row, failed_by, failed_row, cancel_by, cancel_out, cancel_row, cancel_conn, back_by, back_row, drop_by, drop_row}
 
 when_true : (b : Bool) (o : Outcome) → b ≡ true → when b o ≡ Some o
 when_true true o h = refl
@@ -66,3 +66,7 @@ cancel_conn_fits limits s want now w caller row n f e = rw (n, f) (when_true (is
 pub drop_fits : (limits : Limits) (s : State) (conn w caller : ℕ) (row : ConnRow) → find (has_number conn) s.conns ≡ Some row → row.place ≡ Out w caller → step limits s caller (call.Drop conn) ≡ Some (drop_row limits s row)
 unfolding step drop_by
 drop_fits limits s conn w caller row f e = rw f (when_true (is_out_by caller row.place) (drop_row limits s row) (out_by w caller row.place e))
+
+pub back_fits : (limits : Limits) (s : State) (conn now w caller : ℕ) (row : ConnRow) → find (has_number conn) s.conns ≡ Some row → row.place ≡ Out w caller → step limits s caller (call.GiveBack conn now) ≡ Some (back_row limits s row now)
+unfolding step back_by
+back_fits limits s conn now w caller row f e = rw f (when_true (is_out_by caller row.place) (back_row limits s row now) (out_by w caller row.place e))

@@ -8,11 +8,11 @@ use Rattle.gw_pool.specs.Machine.{Outcome, step}
 use Rattle.gw_pool.specs.History.{IsLegal, LegalFrom, after, after_from, moved, reply_of, state_of}
 use Rattle.gw_pool.specs.Core.{entry_of}
 
-after_from_push : (limits : Limits) (s : State) (h : List Entry) (e : Entry) → after_from limits s (h ++ e ∷ []) ≡ moved limits (after_from limits s h) e
+pub after_from_push : (limits : Limits) (s : State) (h : List Entry) (e : Entry) → after_from limits s (h ++ e ∷ []) ≡ moved limits (after_from limits s h) e
 after_from_push limits s [] e = refl
 after_from_push limits s (x ∷ h) e = after_from_push limits (moved limits s x) h e
 
-legal_from_push : (limits : Limits) (s : State) (h : List Entry) (e : Entry) → LegalFrom limits s h → (reply_of (step limits (after_from limits s h) e.caller e.call) ≡ Some e.reply) → LegalFrom limits s (h ++ e ∷ [])
+pub legal_from_push : (limits : Limits) (s : State) (h : List Entry) (e : Entry) → LegalFrom limits s h → (reply_of (step limits (after_from limits s h) e.caller e.call) ≡ Some e.reply) → LegalFrom limits s (h ++ e ∷ [])
 legal_from_push limits s [] e l f = (f, tt)
 legal_from_push limits s (x ∷ h) e l f = (l.0, legal_from_push limits (moved limits s x) h e l.1 f)
 

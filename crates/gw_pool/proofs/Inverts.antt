@@ -1,5 +1,5 @@
 -- What a call that fits says of the rows that it names.
-use Rattle.std.proofs.Common.{◌≡◌, ℕ, ◌==◌, ◌&&◌, ◌⊎◌, inl, inr, Bool, true, false, length, Option, Some, None, refl, ap, nat_lt, eqb-true}
+use Rattle.std.proofs.Common.{◌≡◌, ℕ, ◌==◌, ◌&&◌, ◌⊎◌, inl, inr, Bool, true, false, length, Option, Some, None, refl, ap, sym, ◌∙◌, nat_lt, eqb-true}
 use Rattle.std.specs.List.{find}
 use Rattle.gw_pool.specs.declared.limits.Limits.{Limits}
 use Rattle.gw_pool.specs.declared.entry.Call.TheVariants as call
@@ -8,9 +8,9 @@ use Rattle.gw_pool.specs.declared.rows.Place.TheVariants.{Out, Idle}
 use Rattle.gw_pool.specs.declared.rows.WantRow.{WantRow}
 use Rattle.gw_pool.specs.declared.rows.ConnRow.{ConnRow}
 use Rattle.gw_pool.specs.declared.rows.DialRow.{DialRow}
-use Rattle.gw_pool.specs.Places.{is_granted, is_out_by}
-use Rattle.gw_pool.specs.State.{State, wants_it, dials_for, has_number, is_with}
-use Rattle.gw_pool.specs.Machine.{Outcome, when, units, step, want_step, start_by, start_row, dialed_by, dialed_row, failed_by, failed_row, cancel_by, cancel_out, cancel_row, cancel_conn, drop_by, drop_row}
+use Rattle.gw_pool.specs.Places.{is_granted, is_out_by, since_of}
+use Rattle.gw_pool.specs.State.{State, wants_it, dials_for, has_number, is_with, is_expired, take_oldest}
+use Rattle.gw_pool.specs.Machine.{Outcome, when, units, step, want_step, start_by, start_row, dialed_by, dialed_row, failed_by, failed_row, cancel_by, cancel_out, cancel_row, cancel_conn, back_by, back_row, drop_by, drop_row, taken_row, expire_by, close_idle_by}
 
 pub record Was (b : Bool) (o given : Outcome) : Type 0 where
   pub holds : b ≡ true
@@ -124,3 +124,45 @@ drop_with limits s caller conn o (Some row) f e = let w = was (is_out_by caller 
 pub drop_was : (limits : Limits) (s : State) (caller conn : ℕ) (o : Outcome) → step limits s caller (call.Drop conn) ≡ Some o → DropWas limits s caller conn o
 unfolding step
 drop_was limits s caller conn o e = drop_with limits s caller conn o (find (has_number conn) s.conns) refl e
+
+pub record BackWas (limits : Limits) (s : State) (caller conn now : ℕ) (o : Outcome) : Type 0 where
+  pub row : ConnRow
+  pub found : find (has_number conn) s.conns ≡ Some row
+  pub place : (w : ℕ) × (row.place ≡ Out w caller)
+  pub same : o ≡ back_row limits s row now
+
+back_with : (limits : Limits) (s : State) (caller conn now : ℕ) (o : Outcome) (r : Option ConnRow) → find (has_number conn) s.conns ≡ r → back_by limits s caller now r ≡ Some o → BackWas limits s caller conn now o
+unfolding back_by
+back_with limits s caller conn now o None f e = absurd (cc)
+back_with limits s caller conn now o (Some row) f e = let w = was (is_out_by caller row.place) (back_row limits s row now) o e in record { row = row; found = f; place = out_by caller row.place w.holds; same = w.same }
+
+pub back_was : (limits : Limits) (s : State) (caller conn now : ℕ) (o : Outcome) → step limits s caller (call.GiveBack conn now) ≡ Some o → BackWas limits s caller conn now o
+unfolding step
+back_was limits s caller conn now o e = back_with limits s caller conn now o (find (has_number conn) s.conns) refl e
+
+pub record IdleWas (s : State) (o : Outcome) : Type 0 where
+  pub row : ConnRow
+  pub found : (take_oldest s).0 ≡ Some row
+  pub same : o ≡ taken_row row (take_oldest s).1
+
+expire_with : (limits : Limits) (s : State) (now : ℕ) (o : Outcome) (p : Option ConnRow × State) → take_oldest s ≡ p → expire_by limits now p ≡ Some o → IdleWas s o
+unfolding expire_by
+expire_with limits s now o (None, t) f e = absurd (cc)
+expire_with limits s now o (Some row, t) f e =
+    let w = was (is_expired limits (since_of row.place) now) (taken_row row t) o e in
+    record { row = row; found = ap (λ (q : Option ConnRow × State). q.0) f; same = w.same ∙ ap (λ (q : Option ConnRow × State). taken_row row q.1) (sym f) }
+
+pub expire_was : (limits : Limits) (s : State) (caller now : ℕ) (o : Outcome) → step limits s caller (call.Expire now) ≡ Some o → IdleWas s o
+unfolding step
+expire_was limits s caller now o e = expire_with limits s now o (take_oldest s) refl e
+
+close_with : (s : State) (o : Outcome) (p : Option ConnRow × State) → take_oldest s ≡ p → close_idle_by p ≡ Some o → IdleWas s o
+unfolding close_idle_by
+close_with s o (None, t) f e = absurd (cc)
+close_with s o (Some row, t) f e =
+    let same : o ≡ taken_row row t = cc in
+    record { row = row; found = ap (λ (q : Option ConnRow × State). q.0) f; same = same ∙ ap (λ (q : Option ConnRow × State). taken_row row q.1) (sym f) }
+
+pub close_was : (limits : Limits) (s : State) (caller : ℕ) (o : Outcome) → step limits s caller call.CloseIdle ≡ Some o → IdleWas s o
+unfolding step
+close_was limits s caller o e = close_with s o (take_oldest s) refl e

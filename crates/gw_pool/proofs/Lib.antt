@@ -4,6 +4,8 @@ pub mod Histories
 pub mod Room
 pub mod Steps
 pub mod Fits
+pub mod Expiring
+pub mod Walk
 pub mod Entries
 pub mod Standings
 pub mod TokenEdits
@@ -15,4 +17,14 @@ pub mod Ties
 pub mod TieCalls
 pub mod TieWant
 pub mod SoloCalls
+pub mod Roomy
+pub mod Numbers
+pub mod Finds
+pub mod Sound
+pub mod SoundOffers
+pub mod SoundSteps
+pub mod Served
+pub mod Least
+pub mod Outs
+pub mod Dialings
 mod WorkedRows

@@ -11,7 +11,7 @@ use Rattle.gw_pool.specs.declared.rows.DialRow.{DialRow}
 use Rattle.gw_pool.specs.Places.{is_granted, since_of}
 use Rattle.gw_pool.specs.State.{State, remove_first, least_want, least_waiting, wants_host, waits_for, waits_as, wants_as, wants_it, dials_for, is_with, has_number, is_free, is_expired, rests, rests_for, rests_since_stamp, rests_for_since_stamp, take_stamped, take_stamped_for, take_oldest, take_newest, oldest_stamp, newest_stamp}
 use Rattle.gw_pool.specs.Offer.{Offered, grant_to, grant, evict, evict_row, rest, freed, served, offer_to, offer_conn}
-use Rattle.gw_pool.specs.Machine.{Outcome, replied, want_new, want_idle, want_by, want_step, start_row, dialed_conn, dialed_to, dialed_row, failed_to, failed_row, cancel_row, cancel_conn, drop_row}
+use Rattle.gw_pool.specs.Machine.{Outcome, replied, want_new, want_idle, want_by, want_step, start_row, dialed_conn, dialed_to, dialed_row, failed_to, failed_row, cancel_row, cancel_conn, back_row, drop_row}
 pub use Rattle.gw_pool.specs.Ties.{OutBy, Owns}
 use Rattle.gw_pool.proofs.Room.{Picked, picked, Among}
 
@@ -21,11 +21,11 @@ left_step true test r x xs k m = inr m
 left_step false test r x xs k (inl e) = inl e
 left_step false test r x xs k (inr m) = inr (k m)
 
-among_left : {X : Type 0} (test : X → Bool) (r : X) (xs : List X) → Among r (remove_first test xs) → Among r xs
+pub among_left : {X : Type 0} (test : X → Bool) (r : X) (xs : List X) → Among r (remove_first test xs) → Among r xs
 among_left test r [] m = m
 among_left test r (x ∷ xs) m = left_step (test x) test r x xs (among_left test r xs) m
 
-among_push : {X : Type 0} (r y : X) (xs : List X) → Among r (xs ++ y ∷ []) → Among r xs ⊎ (y ≡ r)
+pub among_push : {X : Type 0} (r y : X) (xs : List X) → Among r (xs ++ y ∷ []) → Among r xs ⊎ (y ≡ r)
 among_push r y [] (inl e) = inr e
 among_push r y [] (inr m) = absurd m
 among_push r y (x ∷ xs) (inl e) = inl (inl e)
@@ -79,7 +79,7 @@ oldest_by : (k : ℕ) (s : State) (n : Option ℕ) → Owns k s → Owns k (take
 oldest_by k s None o = o
 oldest_by k s (Some n) o = less_conns k s (rests_since_stamp n) o
 
-oldest_owns : (k : ℕ) (s : State) → Owns k s → Owns k (take_oldest s).1
+pub oldest_owns : (k : ℕ) (s : State) → Owns k s → Owns k (take_oldest s).1
 unfolding take_oldest
 oldest_owns k s o = oldest_by k s (oldest_stamp s) o
 
@@ -141,6 +141,10 @@ start_owns k s want row f o =
 pub drop_owns : (k : ℕ) (limits : Limits) (s : State) (row : ConnRow) → Owns k s → Owns k (drop_row limits s row).state
 unfolding drop_row
 drop_owns k limits s row o = grant_owns k limits (record s { conns = remove_first (has_number row.conn) s.conns }) row.host (less_conns k s (has_number row.conn) o)
+
+pub back_owns : (k : ℕ) (limits : Limits) (s : State) (row : ConnRow) (now : ℕ) → Owns k s → Owns k (back_row limits s row now).state
+unfolding back_row
+back_owns k limits s row now o = offer_owns k limits (record s { conns = remove_first (has_number row.conn) s.conns }) row now (less_conns k s (has_number row.conn) o)
 
 pub cancel_conn_owns : (k : ℕ) (limits : Limits) (s : State) (want now : ℕ) (row : ConnRow) → Owns k s → Owns k (cancel_conn limits s want row now).state
 unfolding cancel_conn

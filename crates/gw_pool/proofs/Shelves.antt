@@ -2,8 +2,9 @@
 use Rattle.std.proofs.Common.{◌≡◌, ℕ, zero, suc, ◌+◌, ◌<◌, ◌==◌, ◌||◌, ◌&&◌, Bool, true, false, List, [], ◌∷◌, ◌++◌, length, Option, Some, None, refl, ap, sym, arith, slice_index_or, slice_set, eq-eqb, ne_eqb, eqb-true}
 use Rattle.std.specs.List.{remove, find, position}
 use Rattle.gw_pool.proofs.Edits.{taken_at, within_at, passes_at}
-use Rattle.std.specs.Option.{OnSome}
+use Rattle.std.specs.Option.{OnSome, IfNone}
 use Rattle.gw_pool.specs.declared.shelf.Resting.{Resting}
+use Rattle.gw_pool.specs.declared.shelf.Shelved.{Shelved}
 use Rattle.gw_pool.proofs.Room.{removed_length}
 use Rattle.gw_wire.specs.Link.{LinkView}
 use Rattle.gw_pool.specs.declared.rows.ConnRow.{ConnRow}
@@ -11,7 +12,7 @@ use Rattle.gw_pool.specs.declared.rows.Place.{Place}
 use Rattle.gw_pool.specs.declared.rows.Place.TheVariants.{Out, Idle}
 use Rattle.gw_pool.specs.Places.{is_out_to, has_stamp}
 use Rattle.gw_pool.specs.State.{remove_first, is_with, rests_since_stamp, rests_for_since_stamp}
-use Rattle.gw_pool.specs.Shelf.{AreKept, IsKept, HasConn, resting_row, taken_of, is_taken, lent_to, is_lent}
+use Rattle.gw_pool.specs.Shelf.{AreKept, IsKept, HasConn, resting_row, row_of, taken_of, is_taken, lent_to, is_lent}
 
 pub kept_length : {C : Type 0} (link : C → LinkView) (rows : List ConnRow) (held : List (Option C)) → AreKept link rows held → length rows ≡ length held
 kept_length link [] [] k = refl
@@ -173,3 +174,9 @@ lending link rows held i want d k at =
 pub one_less : {C : Type 0} (test : ConnRow → Bool) (rows left : List ConnRow) (o : Option (Resting C)) → resting_row o ≡ find test rows → left ≡ remove_first test rows → OnSome o (length left + 1 ≡ length rows)
 one_less test rows left None f e = tt
 one_less test rows left (Some r) f e = rw e (removed_length test rows r.row (sym f))
+
+-- where nothing was found, all stays
+pub none_same : {C : Type 0} (o : Option (Resting C)) (found : Option (Shelved C)) (A B : Type 0) → resting_row o ≡ row_of found → IfNone found A → (A → B) → IfNone o B
+none_same None None A B e a f = f a
+none_same None (Some x) A B e a f = absurd (cc)
+none_same (Some r) found A B e a f = tt

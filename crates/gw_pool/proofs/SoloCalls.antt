@@ -20,11 +20,11 @@ use Rattle.gw_pool.specs.declared.leases.Ticket.{Ticket}
 use Rattle.gw_pool.specs.declared.leases.Put.{Put}
 use Rattle.gw_pool.specs.Closes.{IsOf}
 use Rattle.gw_pool.specs.State.{State, empty, wants_it, dials_for, has_number, is_with}
-use Rattle.gw_pool.specs.Machine.{Outcome, want_step, Standing, Served, MayDial, NotServed, NotComing, standing, stands_as, stage_standing}
+use Rattle.gw_pool.specs.Machine.{Outcome, step, want_step, Standing, Served, MayDial, NotServed, NotComing, standing, stands_as, stage_standing}
 use Rattle.gw_pool.specs.History.{IsLegal, AreBelow, after, is_full}
 use Rattle.gw_pool.specs.Shelf.{LeavesTaken}
 use Rattle.gw_pool.specs.Tokens.{TokensView, change, ticket_of, has_ticket, has_dial, has_lease, with_dial, without_dial, without_ticket, leased, without_lease}
-use Rattle.gw_pool.specs.Core.{CoreView, Enters, Started, Done, DonePut, CancelDone, state_at, WantMade as CoreMade, WantExpired as CoreExpired, AskTaken as CoreTaken}
+use Rattle.gw_pool.specs.Core.{CoreView, Enters, Started, Done, DonePut, CancelDone, IsBack, IdleTaken as CoreIdle, IdleNot as CoreNot, IdleDone, state_at, WantMade as CoreMade, WantExpired as CoreExpired, AskTaken as CoreTaken}
 use Rattle.gw_pool.specs.Lent as lent
 use Rattle.gw_pool.specs.Lent.{Lent, Meets, Calls, Looks, Leaves}
 use Rattle.gw_pool.specs.Ties.{Tied, SoloHolds, Owns, OutBy, dials_of, one, bit, Weigh, weight, occ_of, dia_of, con_of}
@@ -32,8 +32,8 @@ use Rattle.gw_pool.proofs.Edits.{found_passes}
 use Rattle.gw_pool.proofs.Shelves.{out_at}
 use Rattle.gw_pool.proofs.Histories.{entered_state}
 use Rattle.gw_pool.proofs.Owns.{found_among}
-use Rattle.gw_pool.proofs.Inverts.{want_was, start_was, dialed_was, failed_was, cancel_was, drop_was, CancelRowWas, CancelConnWas}
-use Rattle.gw_pool.proofs.TieCalls.{tie_start, tie_dialed, tie_failed, tie_lease, tie_none, tie_cancel, tie_cancel_conn, tie_drop, leased_has}
+use Rattle.gw_pool.proofs.Inverts.{want_was, start_was, dialed_was, failed_was, cancel_was, back_was, drop_was, IdleWas, CancelRowWas, CancelConnWas}
+use Rattle.gw_pool.proofs.TieCalls.{tie_start, tie_dialed, tie_failed, tie_lease, tie_none, tie_cancel, tie_cancel_conn, tie_back, tie_drop, tie_idle, leased_has}
 use Rattle.gw_pool.proofs.TieWant.{tie_made, tie_expired, with_number}
 
 abbrev pub lent_of : CoreView → TokensView → ℕ → Lent
@@ -241,6 +241,69 @@ holds_drop core core' t t' n w row h f p s k o r =
     let place : was.row.place ≡ Out w 0 = ap (λ (x : ConnRow). x.place) rows ∙ p in
     holds_after core core' t t' s.caller (call.Drop n) s.outcome (change w without_lease t.out) h (drop_zero core core' n w row f p s) s.enters r o
     (rw same (tie_drop core.limits (state_at core) t.out core.taken core'.taken n w was.row h.tied found place k s.enters.taken))
+
+-- give back
+pub is_back : {C : Type 0} (link : C → LinkView) (conn : C) (o : Option ConnRow) (row : ConnRow) (w : ℕ) → o ≡ Some row → row.place ≡ Out w 0 → (link conn).number ≡ row.link → IsBack link conn o
+is_back link conn None row w e p n = absurd (cc)
+is_back link conn (Some r) row w e p n =
+    let same : r ≡ row = cc in
+    let place : r.place ≡ Out w 0 = ap (λ (x : ConnRow). x.place) same ∙ p in
+    (rw place refl, n ∙ ap (λ (x : ConnRow). x.link) (sym same))
+
+back_zero : {C : Type 0} (link : C → LinkView) (core core' : CoreView) (n now w : ℕ) (row : ConnRow) (close : Option C) → find (has_number n) (state_at core).conns ≡ Some row → row.place ≡ Out w 0 → (s : DonePut link core core' (call.GiveBack n now) close) → s.caller ≡ 0
+back_zero link core core' n now w row close f p s =
+    let was = back_was core.limits (state_at core) s.caller n now s.outcome s.enters.fits in
+    let same : was.row ≡ row = (let both = sym was.found ∙ f in cc) in
+    let place : Out was.place.0 s.caller ≡ Out w 0 = sym was.place.1 ∙ ap (λ (r : ConnRow). r.place) same ∙ p in
+    cc
+
+pub back_enters : {C : Type 0} (link : C → LinkView) (core core' : CoreView) (n now w : ℕ) (row : ConnRow) (close : Option C) → find (has_number n) (state_at core).conns ≡ Some row → row.place ≡ Out w 0 → (s : DonePut link core core' (call.GiveBack n now) close) → Enters core core' 0 (call.GiveBack n now) s.outcome
+back_enters link core core' n now w row close f p s = let P : ℕ → Type 0 = λ m. Enters core core' m (call.GiveBack n now) s.outcome in subst P (back_zero link core core' n now w row close f p s) s.enters
+
+pub holds_back : {C : Type 0} (link : C → LinkView) (core core' : CoreView) (t t' : TokensView) (n now w : ℕ) (row : ConnRow) (close : Option C) → SoloHolds core t → find (has_number n) (state_at core).conns ≡ Some row → row.place ≡ Out w 0 → DonePut link core core' (call.GiveBack n now) close → has_lease w t.out ≡ true → t'.out ≡ change w without_lease t.out → t'.room ≡ t.room → SoloHolds core' t'
+holds_back link core core' t t' n now w row close h f p s k o r =
+    let was = back_was core.limits (state_at core) s.caller n now s.outcome s.enters.fits in
+    let found = was.found in
+    let same = was.same in
+    let rows : was.row ≡ row = (let both = sym was.found ∙ f in cc) in
+    let place : was.row.place ≡ Out w 0 = ap (λ (x : ConnRow). x.place) rows ∙ p in
+    holds_after core core' t t' s.caller (call.GiveBack n now) s.outcome (change w without_lease t.out) h (back_zero link core core' n now w row close f p s) s.enters r o
+    (rw same (tie_back core.limits (state_at core) t.out core.taken core'.taken n now w was.row h.tied found place k s.enters.taken))
+
+-- idle connections
+holds_idle : {C : Type 0} (link : C → LinkView) (core core' : CoreView) (t : TokensView) (asked : Call) (conn : C) → SoloHolds core t → (s : CoreIdle link core core' 0 asked conn) → IdleWas (state_at core) s.outcome → SoloHolds core' t
+holds_idle link core core' t asked conn h s was =
+    let same = was.same in
+    holds_after core core' t t 0 asked s.outcome t.out h refl s.enters refl refl
+    (rw same (tie_idle (state_at core) t.out core.taken core'.taken h.tied s.enters.taken))
+
+holds_same : (core core' : CoreView) (t : TokensView) → SoloHolds core t → core' ≡ core → SoloHolds core' t
+holds_same core core' t h e = rw e h
+
+idle_taken : {C : Type 0} (link : C → LinkView) (core core' : CoreView) (t : TokensView) (n : ℕ) (asked : Call) (conn : C) → SoloHolds core t → CoreIdle link core core' 0 asked conn → lent.IdleTaken link (lent_of core t n) (lent_of core' t n) asked conn
+idle_taken link core core' t n asked conn h s = record {
+  others = [];
+  outcome = s.outcome;
+  calls = calls core core' t t n n asked s.outcome h s.enters;
+  close = s.close;
+  leaves = record { out = refl; waits = refl };
+}
+
+idle_not : (core core' : CoreView) (t : TokensView) (n : ℕ) (asked : Call) → SoloHolds core t → CoreNot core core' asked → lent.IdleNot (lent_of core t n) (lent_of core' t n) asked
+idle_not core core' t n asked h s = record {
+  others = [];
+  looks = looks core core' t t n n h (ap (λ c. c.limits) s.same) (ap (λ c. c.journal) s.same);
+  unfit = rw (append-nil core.journal) s.unfit;
+  leaves = record { out = refl; waits = refl };
+}
+
+pub holds_idle_done : {C : Type 0} (link : C → LinkView) (core core' : CoreView) (t : TokensView) (asked : Call) (o : Option C) → SoloHolds core t → IdleDone link core core' 0 asked o → ((out : Outcome) → step core.limits (state_at core) 0 asked ≡ Some out → IdleWas (state_at core) out) → SoloHolds core' t
+holds_idle_done link core core' t asked (Some conn) h s was = holds_idle link core core' t asked conn h s (was s.outcome s.enters.fits)
+holds_idle_done link core core' t asked None h s was = holds_same core core' t h s.same
+
+pub idle_done : {C : Type 0} (link : C → LinkView) (core core' : CoreView) (t : TokensView) (n : ℕ) (asked : Call) (o : Option C) → SoloHolds core t → IdleDone link core core' 0 asked o → lent.IdleStep link (lent_of core t n) (lent_of core' t n) asked o
+idle_done link core core' t n asked (Some conn) h s = idle_taken link core core' t n asked conn h s
+idle_done link core core' t n asked None h s = idle_not core core' t n asked h s
 
 -- cancel
 out_caller : (place : Place) (w caller : ℕ) → place ≡ Out w caller → OutBy 0 place → caller ≡ 0

@@ -11,10 +11,10 @@ use Rattle.gw_pool.specs.declared.rows.WantRow.{WantRow}
 use Rattle.gw_pool.specs.declared.rows.ConnRow.{ConnRow}
 use Rattle.gw_pool.specs.declared.rows.DialRow.{DialRow}
 use Rattle.gw_pool.specs.Places.{want_room, conn_room, is_granted, since_of}
-use Rattle.gw_pool.specs.State.{State, remove_first, least_want, wants_host, wants_as, wants_it, dials_for, is_with, has_number, is_free, is_expired, rests, rests_for, take_conn, take_stamped, take_stamped_for, take_oldest, take_newest, oldest_stamp, newest_stamp}
+use Rattle.gw_pool.specs.State.{State, remove_first, least_want, wants_host, wants_as, wants_it, dials_for, is_with, has_number, is_free, is_expired, rests, rests_for, take_conn, rests_since_stamp, take_stamped, take_stamped_for, take_oldest, take_newest, oldest_stamp, newest_stamp}
 use Rattle.gw_pool.specs.Offer.{Offered, grant, evict, evict_row, rest, freed, served, offer_to, offer_conn}
 use Rattle.gw_pool.specs.declared.entry.Reply.TheVariants as reply
-use Rattle.gw_pool.specs.Machine.{Outcome, replied, want_new, want_idle, want_by, want_step, start_row, dialed_conn, dialed_to, dialed_row, failed_to, failed_row, cancel_row, cancel_conn, drop_row}
+use Rattle.gw_pool.specs.Machine.{Outcome, replied, want_new, want_idle, want_by, want_step, start_row, dialed_conn, dialed_to, dialed_row, failed_to, failed_row, cancel_row, cancel_conn, back_row, drop_row}
 use Rattle.gw_pool.specs.History.{room}
 use Rattle.gw_pool.specs.Core.{IsMade}
 use Rattle.gw_pool.proofs.Edits.{found_passes}
@@ -217,6 +217,33 @@ unfolding cancel_conn
 cancel_conn_goes limits s want now caller row f e =
     let t = record s { conns = remove_first (is_with want) s.conns } in
     then_stays s t (offer_conn limits t row now).state 0 1 (without_conn s row (is_with want) want caller f e) (offer_stays limits t row now) refl
+
+pub back_goes : (limits : Limits) (s : State) (conn now want caller : ℕ) (row : ConnRow) → find (has_number conn) s.conns ≡ Some row → row.place ≡ Out want caller → Goes s (back_row limits s row now).state 0 1
+unfolding back_row
+back_goes limits s conn now want caller row f e =
+    let t = record s { conns = remove_first (has_number row.conn) s.conns } in
+    then_stays s t (offer_conn limits t row now).state 0 1 (without_conn s row (has_number row.conn) want caller (conn_found conn s row f) e) (offer_stays limits t row now) refl
+
+some_place : (place : Place) → 1 ≤ conn_room place
+some_place (Out w c) = omega arith
+some_place (Idle a b) = omega arith
+
+idle_goes_by : (s : State) (o : Option ℕ) (row : ConnRow) → (take_stamped s o).0 ≡ Some row → Goes s (take_stamped s o).1 0 1
+unfolding room
+idle_goes_by s None row e = absurd (cc)
+idle_goes_by s (Some n) row e = record {
+  room = omega (arith, removed (λ r. conn_room r.place) (rests_since_stamp n) s.conns row e, some_place row.place);
+  next_want = omega arith;
+  next_conn = omega arith;
+  next_stamp = omega arith;
+}
+
+idle_goes_here : (s : State) (row : ConnRow) → (take_oldest s).0 ≡ Some row → Goes s (take_oldest s).1 0 1
+unfolding take_oldest
+idle_goes_here s row e = idle_goes_by s (oldest_stamp s) row e
+
+pub idle_goes : (s t : State) (row : ConnRow) → (take_oldest s).0 ≡ Some row → t ≡ (take_oldest s).1 → Goes s t 0 1
+idle_goes s t row e f = rw f (idle_goes_here s row e)
 
 cancelled : (limits : Limits) (s t : State) (row : WantRow) (b : Bool) → Goes s t 0 1 → Goes s (cond b (replied reply.Gone None (grant limits t row.host)) (record { reply = reply.Gone None; gone = None; state = t })).state 0 1
 cancelled limits s t row true g = then_same s t (grant limits t row.host).1 0 1 g (grant_stays limits t row.host)

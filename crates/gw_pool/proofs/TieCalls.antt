@@ -12,14 +12,14 @@ use Rattle.gw_pool.specs.declared.rows.WantRow.{WantRow}
 use Rattle.gw_pool.specs.declared.rows.ConnRow.{ConnRow}
 use Rattle.gw_pool.specs.declared.rows.DialRow.{DialRow}
 use Rattle.gw_pool.specs.Places.{is_granted, is_out_to}
-use Rattle.gw_pool.specs.State.{State, remove_first, wants_it, dials_for, is_with, has_number}
-use Rattle.gw_pool.specs.Machine.{start_row, dialed_row, failed_row, cancel_row, cancel_conn, drop_row}
+use Rattle.gw_pool.specs.State.{State, remove_first, wants_it, dials_for, is_with, has_number, take_oldest}
+use Rattle.gw_pool.specs.Machine.{start_row, dialed_row, failed_row, cancel_row, cancel_conn, back_row, drop_row}
 use Rattle.gw_pool.specs.Shelf.{is_taken, LeavesTaken, LeavesOthers}
 use Rattle.gw_pool.specs.Tokens.{names, is_held, change, holds, has_ticket, has_dial, has_lease, with_dial, without_dial, without_ticket, leased, without_lease}
 use Rattle.gw_pool.proofs.Edits.{found_passes}
 use Rattle.gw_pool.proofs.Room.{removed}
-use Rattle.gw_pool.proofs.Owns.{Owns, start_owns, drop_owns, cancel_owns, cancel_conn_owns, failed_owns, dialed_owns}
-use Rattle.gw_pool.proofs.Weights.{Weigh, Lessens, weight, want_weight, conn_weight, stage_weight, place_weight, start_less, drop_less, drop_dials, cancel_less, cancel_dials, cancel_conn_less, cancel_conn_dials, failed_less, failed_dials, dialed_adds, dialed_dials}
+use Rattle.gw_pool.proofs.Owns.{Owns, start_owns, drop_owns, back_owns, oldest_owns, cancel_owns, cancel_conn_owns, failed_owns, dialed_owns}
+use Rattle.gw_pool.proofs.Weights.{Weigh, Lessens, weight, want_weight, conn_weight, stage_weight, place_weight, start_less, drop_less, drop_dials, back_less, back_dials, oldest_keeps, cancel_less, cancel_dials, cancel_conn_less, cancel_conn_dials, failed_less, failed_dials, dialed_adds, dialed_dials}
 use Rattle.gw_pool.proofs.Ties.{one, bit, occ_of, dia_of, con_of, dials_of, Tied, decide, one_same, one_other, Moves, tie, kept, Renames, changed}
 
 renames_dial : Renames with_dial
@@ -190,6 +190,42 @@ tie_drop limits s out taken taken' conn w row k f p l tk =
     (same_dials s (drop_row limits s row).state w (drop_dials limits s row))
     (λ t. tk w (untaken_row s out taken w h.row k h.found t))
     (λ v n u. tk v u)
+
+-- a want whose connection is given back
+pub tie_back : (limits : Limits) (s : State) (out : List Holding) (taken taken' : List ℕ) (conn now w : ℕ) (row : ConnRow) → Tied s out taken → find (has_number conn) s.conns ≡ Some row → row.place ≡ Out w 0 → has_lease w out ≡ true → LeavesTaken taken taken' → Tied (back_row limits s row now).state (change w without_lease out) taken'
+tie_back limits s out taken taken' conn now w row k f p l tk =
+    let h = has w out (λ x. x.lease) l in
+    let less = back_less (occ_of w) limits s conn now row f in
+    let own : place_weight (occ_of w) row.place ≡ 1 = (rw p (one_same w)) in
+    tie_kept s (back_row limits s row now).state out taken taken' w h.row without_lease renames_no_lease k h.found
+    (less_moves s (back_row limits s row now).state (back_owns 0 limits s row now k.own) k.con k.con_new (λ g. weaken g s (back_row limits s row now).state (place_weight g row.place) (back_less g limits s conn now row f)))
+    (omega (arith, less.weight, own, k.occ w))
+    (ap (dials_of w) (back_dials limits s row now) ∙ dials_row s out taken w h.row k h.found)
+    (same_dials s (back_row limits s row now).state w (back_dials limits s row now))
+    (λ t. tk w (untaken_row s out taken w h.row k h.found t))
+    (λ v n u. tk v u)
+
+-- an idle connection that is taken out: no token names it
+pub tie_idle : (s : State) (out : List Holding) (taken taken' : List ℕ) → Tied s out taken → LeavesTaken taken taken' → Tied (take_oldest s).1 out taken'
+tie_idle s out taken taken' k tk =
+    let less = λ (g : Weigh). oldest_keeps g s in
+    let next = (less (con_of 0)).next_want in
+    let conn = (less (con_of 0)).next_conn in
+    record {
+      own = oldest_owns 0 s k.own;
+      occ = λ w. omega (arith, (less (occ_of w)).weight, k.occ w);
+      dia = λ w. omega (arith, (less (dia_of w)).weight, k.dia w);
+      con = λ n. omega (arith, (less (con_of n)).weight, k.con n);
+      occ_new = λ w l. omega (arith, (less (occ_of w)).weight, k.occ_new w (rw next at l));
+      dia_new = λ w l. omega (arith, (less (dia_of w)).weight, k.dia_new w (rw next at l));
+      con_new = λ n l. omega (arith, (less (con_of n)).weight, k.con_new n (rw conn at l));
+      out_new = λ w l. k.out_new w (rw next at l);
+      once = k.once;
+      held = λ w. omega (arith, (less (occ_of w)).weight, k.held w);
+      dials = λ w. ap (dials_of w) (less (occ_of w)).dials ∙ k.dials w;
+      untaken = λ w t. tk w (k.untaken w t);
+      taken_new = λ w l. tk w (k.taken_new w (rw next at l));
+    }
 
 -- a want that is given up
 pub tie_cancel : (limits : Limits) (s : State) (out : List Holding) (taken taken' : List ℕ) (w : ℕ) (row : WantRow) → Tied s out taken → find (wants_it w) s.wants ≡ Some row → has_ticket w out ≡ true → LeavesTaken taken taken' → Tied (cancel_row limits s row).state (change w without_ticket out) taken'

@@ -13,7 +13,7 @@ use Rattle.gw_pool.specs.declared.rows.DialRow.{DialRow}
 use Rattle.gw_pool.specs.Places.{is_granted, is_waiting, since_of}
 use Rattle.gw_pool.specs.State.{State, remove_first, least_want, least_waiting, wants_host, waits_for, waits_as, wants_as, wants_it, dials_for, is_with, has_number, is_free, is_expired, rests, rests_for, rests_for_since_stamp, take_conn, take_stamped, take_stamped_for, take_oldest, take_newest, oldest_stamp, newest_stamp}
 use Rattle.gw_pool.specs.Offer.{Offered, grant_to, grant, evict, evict_row, rest, freed, served, offer_to, offer_conn}
-use Rattle.gw_pool.specs.Machine.{Outcome, replied, want_new, want_idle, want_by, want_step, start_row, dialed_conn, dialed_to, dialed_row, failed_to, failed_row, cancel_row, cancel_conn, drop_row}
+use Rattle.gw_pool.specs.Machine.{Outcome, replied, want_new, want_idle, want_by, want_step, start_row, dialed_conn, dialed_to, dialed_row, failed_to, failed_row, cancel_row, cancel_conn, back_row, drop_row}
 pub use Rattle.gw_pool.specs.Ties.{Weigh, stage_weight, place_weight, want_weight, conn_weight}
 unfoldable pub use Rattle.gw_pool.specs.Ties.{weight}
 use Rattle.gw_pool.proofs.Edits.{found_passes}
@@ -104,7 +104,7 @@ unfolding least_waiting
 grant_if g s host true = grant_picked g s host (least_waiting s host) (λ r e. picked (waits_for host) s.wants r e)
 grant_if g s host false = keeps_here g s
 
-grant_keeps : (g : Weigh) (limits : Limits) (s : State) (host : ℕ) → Keeps g s (grant limits s host).1 0
+pub grant_keeps : (g : Weigh) (limits : Limits) (s : State) (host : ℕ) → Keeps g s (grant limits s host).1 0
 unfolding grant
 grant_keeps g limits s host = grant_if g s host (is_free limits s host)
 
@@ -116,7 +116,7 @@ oldest_by : (g : Weigh) (s : State) (o : Option ℕ) → Keeps g s (take_stamped
 oldest_by g s None = keeps_here g s
 oldest_by g s (Some n) = take_keeps g s _
 
-oldest_keeps : (g : Weigh) (s : State) → Keeps g s (take_oldest s).1 0
+pub oldest_keeps : (g : Weigh) (s : State) → Keeps g s (take_oldest s).1 0
 unfolding take_oldest
 oldest_keeps g s = oldest_by g s (oldest_stamp s)
 
@@ -148,7 +148,7 @@ rest_by : (g : Weigh) (limits : Limits) (s t : State) (n : ℕ) (b : Bool) (o : 
 rest_by g limits s t n true o e h = keeps_then g s t (evict limits t).state n h (evict_keeps g limits t)
 rest_by g limits s t n false o e h = rw e (up g s s n (keeps_here g s))
 
-rest_keeps : (g : Weigh) (limits : Limits) (s : State) (row : ConnRow) (now : ℕ) → Keeps g s (rest limits s row now).state (g.conn row.conn)
+pub rest_keeps : (g : Weigh) (limits : Limits) (s : State) (row : ConnRow) (now : ℕ) → Keeps g s (rest limits s row now).state (g.conn row.conn)
 unfolding rest
 rest_keeps g limits s row now = rest_by g limits s _ (g.conn row.conn) (nat_lt (count_by (rests_for row.host) s.conns) limits.idle_per_host) _ refl (rested g s row now)
 
@@ -156,7 +156,7 @@ freed_by : (g : Weigh) (limits : Limits) (s : State) (host : ℕ) (b : Bool) →
 freed_by g limits s host true = grant_keeps g limits s host
 freed_by g limits s host false = keeps_here g s
 
-freed_keeps : (g : Weigh) (limits : Limits) (s : State) (want : WantRow) → Keeps g s (freed limits s want).1 0
+pub freed_keeps : (g : Weigh) (limits : Limits) (s : State) (want : WantRow) → Keeps g s (freed limits s want).1 0
 unfolding freed
 freed_keeps g limits s want = freed_by g limits s want.host (is_granted want.stage)
 
@@ -182,7 +182,7 @@ offer_by g limits s row now host (Some want) k =
     let t = record s { wants = remove_first (wants_as want.host want.want) s.wants; conns = s.conns ++ record row { place = Out want.want want.caller } ∷ [] } in
     served_by g s t (g.conn row.conn) (freed limits t want) want.want (given g s row want host (k want refl)) (freed_keeps g limits t want)
 
-offer_keeps : (g : Weigh) (limits : Limits) (s : State) (row : ConnRow) (now : ℕ) → Keeps g s (offer_conn limits s row now).state (g.conn row.conn)
+pub offer_keeps : (g : Weigh) (limits : Limits) (s : State) (row : ConnRow) (now : ℕ) → Keeps g s (offer_conn limits s row now).state (g.conn row.conn)
 unfolding offer_conn least_want
 offer_keeps g limits s row now = offer_by g limits s (record row { reused = true }) now row.host (least_want s row.host) (λ r e. picked (wants_host row.host) s.wants r e)
 
@@ -202,17 +202,17 @@ pub record AddsConn (g : Weigh) (s t : State) (down : ℕ) : Type 0 where
   pub next_want : t.next_want ≡ s.next_want
   pub next_conn : t.next_conn ≡ s.next_conn + 1
 
-dial_found : (want : ℕ) (s : State) (row : DialRow) → find (dials_for want) s.dials ≡ Some row → find (dials_for row.want) s.dials ≡ Some row
+pub dial_found : (want : ℕ) (s : State) (row : DialRow) → find (dials_for want) s.dials ≡ Some row → find (dials_for row.want) s.dials ≡ Some row
 dial_found want s row f = let same : row.want ≡ want = eqb-true row.want want (found_passes (dials_for want) s.dials row f) in
     let P : ℕ → Type 0 = λ n. find (dials_for n) s.dials ≡ Some row in
     subst P (sym same) f
 
-want_found : (want : ℕ) (s : State) (row : WantRow) → find (wants_it want) s.wants ≡ Some row → find (wants_it row.want) s.wants ≡ Some row
+pub want_found : (want : ℕ) (s : State) (row : WantRow) → find (wants_it want) s.wants ≡ Some row → find (wants_it row.want) s.wants ≡ Some row
 want_found want s row f = let same : row.want ≡ want = eqb-true row.want want (found_passes (wants_it want) s.wants row f) in
     let P : ℕ → Type 0 = λ n. find (wants_it n) s.wants ≡ Some row in
     subst P (sym same) f
 
-conn_found : (conn : ℕ) (s : State) (row : ConnRow) → find (has_number conn) s.conns ≡ Some row → find (has_number row.conn) s.conns ≡ Some row
+pub conn_found : (conn : ℕ) (s : State) (row : ConnRow) → find (has_number conn) s.conns ≡ Some row → find (has_number row.conn) s.conns ≡ Some row
 conn_found conn s row f = let same : row.conn ≡ conn = eqb-true row.conn conn (found_passes (has_number conn) s.conns row f) in
     let P : ℕ → Type 0 = λ n. find (has_number n) s.conns ≡ Some row in
     subst P (sym same) f
@@ -232,18 +232,18 @@ start_less g s want row f h = record {
   next_conn = refl;
 }
 
-without_conn : (g : Weigh) (s : State) (row : ConnRow) (test : ConnRow → Bool) → find test s.conns ≡ Some row → weight g (record s { conns = remove_first test s.conns }) + conn_weight g row ≤ weight g s
+pub without_conn : (g : Weigh) (s : State) (row : ConnRow) (test : ConnRow → Bool) → find test s.conns ≡ Some row → weight g (record s { conns = remove_first test s.conns }) + conn_weight g row ≤ weight g s
 unfolding weight
 without_conn g s row test f = omega (arith, removed (conn_weight g) test s.conns row f)
 
 took_weight : (g : Weigh) (s : State) (row : ConnRow) (test : ConnRow → Bool) → find test s.conns ≡ Some row → weight g (record s { conns = remove_first test s.conns }) + g.conn row.conn ≤ weight g s
 took_weight g s row test f = omega (arith, without_conn g s row test f)
 
-without_want : (g : Weigh) (s : State) (row : WantRow) (test : WantRow → Bool) → find test s.wants ≡ Some row → weight g (record s { wants = remove_first test s.wants }) + want_weight g row ≤ weight g s
+pub without_want : (g : Weigh) (s : State) (row : WantRow) (test : WantRow → Bool) → find test s.wants ≡ Some row → weight g (record s { wants = remove_first test s.wants }) + want_weight g row ≤ weight g s
 unfolding weight
 without_want g s row test f = omega (arith, removed (want_weight g) test s.wants row f)
 
-without_dial : (g : Weigh) (s : State) (row : DialRow) (test : DialRow → Bool) → find test s.dials ≡ Some row → weight g (record s { dials = remove_first test s.dials }) + g.dial row.want ≤ weight g s
+pub without_dial : (g : Weigh) (s : State) (row : DialRow) (test : DialRow → Bool) → find test s.dials ≡ Some row → weight g (record s { dials = remove_first test s.dials }) + g.dial row.want ≤ weight g s
 unfolding weight
 without_dial g s row test f = omega (arith, removed (λ (r : DialRow). g.dial r.want) test s.dials row f)
 
@@ -257,6 +257,17 @@ drop_less g limits s conn row f =
 pub drop_dials : (limits : Limits) (s : State) (row : ConnRow) → (drop_row limits s row).state.dials ≡ s.dials
 unfolding drop_row
 drop_dials limits s row = (grant_keeps nothing limits (record s { conns = remove_first (has_number row.conn) s.conns }) row.host).dials
+
+pub back_less : (g : Weigh) (limits : Limits) (s : State) (conn now : ℕ) (row : ConnRow) → find (has_number conn) s.conns ≡ Some row → Lessens g s (back_row limits s row now).state (place_weight g row.place)
+unfolding back_row
+back_less g limits s conn now row f =
+    let t = record s { conns = remove_first (has_number row.conn) s.conns } in
+    let last = offer_keeps g limits t row now in
+    record { weight = omega (arith, without_conn g s row (has_number row.conn) (conn_found conn s row f), last.weight); next_want = last.next_want; next_conn = last.next_conn }
+
+pub back_dials : (limits : Limits) (s : State) (row : ConnRow) (now : ℕ) → (back_row limits s row now).state.dials ≡ s.dials
+unfolding back_row
+back_dials limits s row now = (offer_keeps nothing limits (record s { conns = remove_first (has_number row.conn) s.conns }) row now).dials
 
 pub cancel_conn_less : (g : Weigh) (limits : Limits) (s : State) (want now : ℕ) (row : ConnRow) → find (is_with want) s.conns ≡ Some row → Lessens g s (cancel_conn limits s want row now).state (place_weight g row.place)
 unfolding cancel_conn

@@ -1,5 +1,6 @@
 -- The machine on worked schedules: what each call of a schedule is answered, and None where it doesn't fit.
-use Rattle.std.proofs.Common.{◌≡◌, ℕ, List, [], ◌∷◌, Option, Some, None, refl}
+use Rattle.std.proofs.Common.{◌≡◌, ℕ, true, false, List, [], ◌∷◌, take, Option, Some, None, refl}
+use Rattle.gw_pool.specs.declared.entry.Entry.{Entry}
 use Rattle.gw_pool.specs.declared.limits.Limits.{Limits}
 use Rattle.gw_pool.specs.declared.entry.Call.{Call}
 use Rattle.gw_pool.specs.declared.entry.Call.TheVariants as call
@@ -9,7 +10,7 @@ use Rattle.gw_pool.specs.declared.entry.Offer.TheVariants as offer
 use Rattle.gw_pool.specs.State.{State, empty, used, is_free, is_expired, least_want, least_waiting, newest_stamp, take_newest, oldest_stamp, take_oldest}
 use Rattle.gw_pool.specs.Offer.{grant_to, grant, evict, rest, freed, offer_to, offer_conn}
 use Rattle.gw_pool.specs.Machine.{step, units, want_new, want_idle, want_by, want_step, start_row, start_by, dialed_conn, dialed_to, dialed_row, dialed_by, failed_to, failed_row, failed_by, cancel_row, cancel_conn, cancel_out, cancel_by, back_row, back_by, drop_row, drop_by, expire_by, close_idle_by}
-use Rattle.gw_pool.specs.History.{reply_of, state_of}
+use Rattle.gw_pool.specs.History.{reply_of, state_of, IsLegal, moved, after, room, is_full}
 
 abbrev answers : Limits → State → List (ℕ × Call) → List (Option Reply)
 answers limits s [] = []
@@ -76,3 +77,30 @@ idle_ones : answers (limits_of 9 0 1) empty
     ∷ Some (reply.Expired 1) ∷ None ∷ []
 unfolding used is_free is_expired least_want least_waiting newest_stamp take_newest oldest_stamp take_oldest grant_to grant evict rest freed offer_to offer_conn step units want_new want_idle want_by want_step start_row start_by dialed_conn dialed_to dialed_row dialed_by failed_to failed_row failed_by cancel_row cancel_conn cancel_out cancel_by back_row back_by drop_row drop_by expire_by close_idle_by
 idle_ones = refl
+
+-- of two connections that are given back, with one idle at most, the one that was given back first is evicted
+evicted : answers (limits_of 2 0 1) empty
+    ((0, call.Want 0 0) ∷ (0, call.Start 0) ∷ (0, call.Dialed 0 50 0) ∷ (1, call.Want 0 0) ∷ (1, call.Start 1) ∷ (1, call.Dialed 1 51 0)
+    ∷ (0, call.GiveBack 0 0) ∷ (1, call.GiveBack 1 0) ∷ (0, call.CloseIdle) ∷ (0, call.CloseIdle) ∷ [])
+    ≡ Some (reply.Granted 0) ∷ Some reply.Go ∷ Some (reply.Kept 0) ∷ Some (reply.Granted 1) ∷ Some reply.Go ∷ Some (reply.Kept 1)
+    ∷ Some (reply.Put (offer.Idle None)) ∷ Some (reply.Put (offer.Idle (Some 0))) ∷ Some (reply.Taken 1) ∷ None ∷ []
+unfolding used is_free is_expired least_want least_waiting newest_stamp take_newest oldest_stamp take_oldest grant_to grant evict rest freed offer_to offer_conn step units want_new want_idle want_by want_step start_row start_by dialed_conn dialed_to dialed_row dialed_by failed_to failed_row failed_by cancel_row cancel_conn cancel_out cancel_by back_row back_by drop_row drop_by expire_by close_idle_by
+evicted = refl
+
+entry : Call → Reply → Entry
+entry asked answer = record { caller = 0; call = asked; reply = answer }
+
+-- the first exchange and three on the same connection fill a journal of 16 entries
+four_exchanges : List Entry
+four_exchanges =
+    entry (call.Want 0 7) (reply.Granted 0) ∷ entry (call.Start 0) reply.Go ∷ entry (call.Dialed 0 40 7) (reply.Kept 0) ∷ entry (call.GiveBack 0 7) (reply.Put (offer.Idle None))
+    ∷ entry (call.Want 0 7) (reply.Given 1 0) ∷ entry (call.GiveBack 0 7) (reply.Put (offer.Idle None))
+    ∷ entry (call.Want 0 7) (reply.Given 2 0) ∷ entry (call.GiveBack 0 7) (reply.Put (offer.Idle None))
+    ∷ entry (call.Want 0 7) (reply.Given 3 0) ∷ entry (call.GiveBack 0 7) (reply.Put (offer.Idle None)) ∷ []
+
+small : Limits
+small = record { idle_total = 100; idle_per_host = 2; conns_per_host = 0; idle_ms = 90000; journal = 16; passes = 1; per_pass = 1; hosts = 1 }
+
+full_journal : (IsLegal small four_exchanges) × (is_full small four_exchanges ≡ true) × (is_full small (take 8 four_exchanges) ≡ false)
+unfolding used is_free is_expired least_want least_waiting newest_stamp take_newest oldest_stamp take_oldest grant_to grant evict rest freed offer_to offer_conn step units want_new want_idle want_by want_step start_row start_by dialed_conn dialed_to dialed_row dialed_by failed_to failed_row failed_by cancel_row cancel_conn cancel_out cancel_by back_row back_by drop_row drop_by expire_by close_idle_by entry four_exchanges small IsLegal moved after is_full room
+full_journal = ((refl, (refl, (refl, (refl, (refl, (refl, (refl, (refl, (refl, (refl, tt)))))))))), refl, refl)

@@ -136,6 +136,25 @@ CancelDone link old new wanted now close MayDial = DonePut link old new (call.Ca
 CancelDone link old new wanted now close NotServed = DonePut link old new (call.Cancel wanted now) close
 CancelDone link old new wanted now close NotComing = (new ≡ old) × (close ≡ None)
 
+-- a connection that an idle row's call hands out, or none, where the call fits for nobody
+pub record IdleTaken {C : Type 0} (link : C → LinkView) (old new : CoreView) (caller : ℕ) (asked : Call) (conn : C) : Type 0 where
+  pub outcome : Outcome
+  pub enters : Enters old new caller asked outcome
+  pub close : IsOf link conn outcome.gone
+
+pub record IdleNot (old new : CoreView) (asked : Call) : Type 0 where
+  pub same : new ≡ old
+  pub unfit : (caller : ℕ) → step old.limits (state_at old) caller asked ≡ None
+
+abbrev pub IdleDone : {C : Type 0} → (C → LinkView) → CoreView → CoreView → ℕ → Call → Option C → Type 0
+IdleDone link old new caller asked (Some conn) = IdleTaken link old new caller asked conn
+IdleDone link old new caller asked None = IdleNot old new asked
+
+-- a connection that is out, with its link's number
+abbrev pub IsBack : {C : Type 0} → (C → LinkView) → C → Option ConnRow → Type 0
+IsBack link conn None = ⊥
+IsBack link conn (Some row) = (rests row ≡ false) × ((link conn).number ≡ row.link)
+
 -- a connection that is out
 abbrev pub IsOut : Option ConnRow → Type 0
 IsOut None = ⊥

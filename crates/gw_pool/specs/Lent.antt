@@ -1,5 +1,5 @@
 -- The pool as one caller sees it: what contracts see of it, and what its calls do.
-use Rattle.std.specs.Prelude.{◌≡◌, ℕ, true, false, List, [], ◌∷◌, ◌++◌, ◌+◌, ◌-◌, ◌^◌, min, find, Some, None}
+use Rattle.std.specs.Prelude.{◌≡◌, ℕ, true, false, List, [], ◌∷◌, ◌++◌, ◌+◌, ◌-◌, ◌^◌, min, find, Option, Some, None}
 use Rattle.gw_wire.specs.Link.{LinkView}
 use Rattle.gw_pool.specs.declared.limits.Limits.{Limits}
 use Rattle.gw_pool.specs.declared.entry.Entry.{Entry}
@@ -210,3 +210,29 @@ pub record DropStep (old new : Lent) (conn want : ℕ) : Type 0 where
   pub outcome : Outcome
   pub calls : Calls old new others (call.Drop conn) outcome
   pub leaves : Leaves old new (change want without_lease old.out) old.waits
+
+-- a lease is given back
+pub record BackStep {C : Type 0} (link : C → LinkView) (old new : Lent) (conn want now : ℕ) (put : Put C) : Type 0 where
+  pub others : List Entry
+  pub outcome : Outcome
+  pub calls : Calls old new others (call.GiveBack conn now) outcome
+  pub close : Closes link put.close outcome.gone
+  pub leaves : Leaves old new (change want without_lease old.out) old.waits
+
+-- the least recently idle connection is taken out, and its taker closes it; or the call fits for nobody
+pub record IdleTaken {C : Type 0} (link : C → LinkView) (old new : Lent) (asked : Call) (conn : C) : Type 0 where
+  pub others : List Entry
+  pub outcome : Outcome
+  pub calls : Calls old new others asked outcome
+  pub close : IsOf link conn outcome.gone
+  pub leaves : Leaves old new old.out old.waits
+
+pub record IdleNot (old new : Lent) (asked : Call) : Type 0 where
+  pub others : List Entry
+  pub looks : Looks old new others
+  pub unfit : (caller : ℕ) → step old.limits (met_state old others) caller asked ≡ None
+  pub leaves : Leaves old new old.out old.waits
+
+abbrev pub IdleStep : {C : Type 0} → (C → LinkView) → Lent → Lent → Call → Option C → Type 0
+IdleStep link old new asked (Some conn) = IdleTaken link old new asked conn
+IdleStep link old new asked None = IdleNot old new asked

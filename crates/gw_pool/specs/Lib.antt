@@ -11,3 +11,4 @@ pub mod Lent
 pub mod Core
 pub mod Tokens
 pub mod Ties
+pub mod Laws

@@ -44,6 +44,14 @@ pub fn stamped_at(rows: &[ConnRow], stamp: u64) -> Option<usize>
     rows.iter().position(|row| row.place.has_stamp(stamp))
 }
 
+/// The row of the connection that is idle with a stamp.
+pub fn find_stamped(rows: &[ConnRow], stamp: u64) -> Option<ConnRow>
+    ensures { result ≡ find (rests_since_stamp stamp) rows.now }
+{
+    let at = stamped_at(rows, stamp);
+    row_at(rows, at)
+}
+
 /// The place of the row of a host's connection that is idle with a stamp.
 pub fn stamped_for_at(rows: &[ConnRow], host: u32, stamp: u64) -> Option<usize>
     ensures { result ≡ position (rests_for_since_stamp host stamp) rows.now }

@@ -1,7 +1,8 @@
 //! The pool as one caller sees it.
 
 ghost use Rattle.std.specs.Prelude.{◌≡◌, ◌<◌, true, length};
-ghost use Rattle.gw_pool.specs.Lent.{Lent, WantStep, AskStep, StartStep, DialedStep, DialFailedStep, CancelStep, DropStep, LeaseOf};
+ghost use Rattle.gw_pool.specs.Lent.{Lent, WantStep, AskStep, StartStep, DialedStep, DialFailedStep, CancelStep, BackStep, DropStep, IdleStep, LeaseOf};
+ghost use Rattle.gw_pool.specs.declared.entry.Call.TheVariants as call;
 ghost use Rattle.gw_pool.specs.Tokens.{has_ticket, has_dial};
 
 use gw_wire::Link;
@@ -111,9 +112,23 @@ pub trait Leases<C: Link> {
         requires { has_ticket t.want (lent self.old).out ≡ true }
         ensures { CancelStep C.link (lent self.old) (lent self.new) t now result };
 
+    /// Gives a connection back for further use: it goes to the least want of its host, becomes idle, or is left to be
+    /// closed.
+    fn give_back(&mut self, l: Lease<C>, now: u64) -> Put<C>
+        requires { LeaseOf C.link (lent self.old) l }
+        ensures { BackStep C.link (lent self.old) (lent self.new) l.no l.want now result };
+
     /// Takes a connection out of the pool; the caller closes it.
     fn drop_conn(&mut self, l: Lease<C>) -> C
         requires { LeaseOf C.link (lent self.old) l }
         ensures conn { result ≡ l.conn }
         ensures step { DropStep (lent self.old) (lent self.new) l.no l.want };
+
+    /// Takes out the least recently idle connection, which the caller closes, where it is expired.
+    fn expire(&mut self, now: u64) -> Option<C>
+        ensures { IdleStep C.link (lent self.old) (lent self.new) (call.Expire now) result };
+
+    /// Takes out the least recently idle connection, which the caller closes; None where none is idle.
+    fn close_idle(&mut self) -> Option<C>
+        ensures { IdleStep C.link (lent self.old) (lent self.new) call.CloseIdle result };
 }

@@ -6,6 +6,7 @@ mod conns;
 mod edit;
 mod entry;
 mod holding;
+mod laws;
 mod leases;
 mod limits;
 mod machine;
@@ -18,6 +19,10 @@ mod wants;
 pub use answers::{Closed, CoreAsk, CoreWant};
 pub use entry::{Call, Entry, Offer, Reply};
 pub use holding::Holding;
+pub use laws::{
+    connections_are_taken_back, dialed_connections_are_somewhere, journal_has_room,
+    least_wants_come_first, limits_hold, nothing_is_held_back, wants_are_served_once,
+};
 pub use leases::{Ask, DialToken, Lease, Leases, Put, Start, Ticket, Want};
 pub use limits::Limits;
 pub use pool::PoolCore;

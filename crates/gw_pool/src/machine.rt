@@ -1,10 +1,10 @@
 //! The pool's machine over its rows: one function for each case of the definition.
 
-ghost use Rattle.std.specs.Prelude.{◌≡◌, ◌<◌, ◌≤◌, ◌+◌, ◌^◌, ◌++◌, None, Some, false, find, nat_lt, map, IfSome, length, OnSome, vec_len, vec_capacity, option_map, ◌↔◌, true};
+ghost use Rattle.std.specs.Prelude.{◌≡◌, ◌<◌, ◌≤◌, ◌+◌, ◌^◌, ◌++◌, None, Some, false, find, nat_lt, map, IfSome, IfNone, length, OnSome, vec_len, vec_capacity, option_map, ◌↔◌, true};
 ghost use Rattle.gw_pool.specs.Places.{is_idle, since_of};
-ghost use Rattle.gw_pool.specs.State.{is_free, is_expired, take_newest, take_oldest, least_want, least_waiting, wants_it, is_with, dials_for};
+ghost use Rattle.gw_pool.specs.State.{remove_first, has_number, is_free, is_expired, take_newest, take_oldest, least_want, least_waiting, wants_it, is_with, dials_for};
 ghost use Rattle.gw_pool.specs.Offer.{grant_to, grant, evict, rest, freed, offer_to, offer_conn};
-ghost use Rattle.gw_pool.specs.Machine.{want_new, want_idle, want_by, want_step, start_row, dialed_conn, dialed_to, dialed_row, failed_to, failed_row, cancel_row, cancel_conn, drop_row};
+ghost use Rattle.gw_pool.specs.Machine.{want_new, want_idle, want_by, want_step, start_row, dialed_conn, dialed_to, dialed_row, failed_to, failed_row, cancel_row, cancel_conn, back_row, drop_row, expire_by};
 ghost use Rattle.gw_pool.specs.History.{room};
 ghost use Rattle.gw_pool.specs.Idle.{idle_rows};
 ghost use Rattle.gw_pool.specs.Rows.{state_of, HasRoom, Keeps};
@@ -12,8 +12,8 @@ ghost use Rattle.gw_pool.specs.Shelf.{resting_row, is_lent, IsKept};
 ghost use Rattle.gw_pool.specs.Closes.{Closes};
 
 use crate::conns::{
-    conn_at, conn_with_at, count_conns, count_idle, count_idle_for, newest, oldest, stamped_at,
-    stamped_for_at,
+    conn_at, conn_with_at, count_conns, count_idle, count_idle_for, find_stamped, newest, oldest,
+    stamped_at, stamped_for_at,
 };
 use crate::entry::{Offer, Reply};
 use crate::limits::Limits;
@@ -137,13 +137,14 @@ impl<C: Link> Rows<C> {
 
     /// Takes out the least recently idle connection.
     #[tactic(auto, using(crate::proofs::Edits::length_left), unfolding(crate::specs::State::take_oldest, crate::specs::State::oldest_stamp))]
-    fn take_oldest(&mut self) -> Option<Resting<C>>
+    pub fn take_oldest(&mut self) -> Option<Resting<C>>
         ensures row { resting_row result ≡ (take_oldest (state_of self.old)).0 }
         ensures state { state_of self.new ≡ (take_oldest (state_of self.old)).1 }
         ensures number { IfSome result (λ r. (C.link r.conn).number ≡ r.row.link) }
         ensures room { HasRoom self.old → HasRoom self.new }
         ensures next { self.new.next_want ≡ self.old.next_want }
         ensures fewer { OnSome result (length self.new.conns.rows + 1 ≡ length self.old.conns.rows) }
+        ensures same { IfNone result (self.new ≡ self.old) }
         ensures keeps { Keeps self.old self.new }
     {
         match oldest(self.conns.rows()) {
@@ -457,6 +458,21 @@ impl<C: Link> Rows<C> {
         }
     }
 
+    /// A dial's row goes. The row of its want is answered, if that still has one.
+    #[tactic(auto, using(crate::proofs::Edits::length_left))]
+    fn end_dial(&mut self, dial: DialRow) -> Option<WantRow>
+        ensures want { result ≡ find (wants_it dial.want) self.old.wants.items }
+        ensures state { state_of self.new ≡ record (state_of self.old) { dials = remove_first (dials_for dial.want) self.old.dials.items } }
+        ensures wants { self.new.wants ≡ self.old.wants }
+        ensures numbers { (self.new.next_conn ≡ self.old.next_conn) × (self.new.next_stamp ≡ self.old.next_stamp) }
+        ensures room { HasRoom self.old → HasRoom self.new }
+        ensures keeps { Keeps self.old self.new }
+    {
+        let want = find_want(self.wants.as_slice(), dial.want);
+        let _ = take_dial(&mut self.dials, dial.want);
+        want
+    }
+
     /// A dial gave a connection.
     #[tactic(auto, using(crate::proofs::Edits::length_left), unfolding(crate::specs::Machine::dialed_row))]
     pub fn dialed(&mut self, dial: DialRow, link: u64, conn: C, now: u64) -> Done<C>
@@ -469,8 +485,7 @@ impl<C: Link> Rows<C> {
         ensures state { state_of self.new ≡ (dialed_row self.old.limits (state_of self.old) dial link now).state }
         ensures keeps { Keeps self.old self.new }
     {
-        let want = find_want(self.wants.as_slice(), dial.want);
-        let _ = take_dial(&mut self.dials, dial.want);
+        let want = self.end_dial(dial);
         self.dialed_to(dial, link, conn, now, want)
     }
 
@@ -482,8 +497,7 @@ impl<C: Link> Rows<C> {
         ensures state { state_of self.new ≡ (failed_row self.old.limits (state_of self.old) dial).state }
         ensures keeps { Keeps self.old self.new }
     {
-        let want = find_want(self.wants.as_slice(), dial.want);
-        let _ = take_dial(&mut self.dials, dial.want);
+        let want = self.end_dial(dial);
         self.failed_to(dial, want)
     }
 
@@ -534,16 +548,80 @@ impl<C: Link> Rows<C> {
         }
     }
 
+    /// Takes out the row of a connection.
+    #[tactic(auto, using(crate::proofs::Edits::length_left))]
+    fn take_number(&mut self, no: u64)
+        ensures conns { self.new.conns.rows ≡ remove_first (has_number no) self.old.conns.rows }
+        ensures state { state_of self.new ≡ record (state_of self.old) { conns = remove_first (has_number no) self.old.conns.rows } }
+        ensures room { HasRoom self.old → HasRoom self.new }
+        ensures next { self.new.next_stamp ≡ self.old.next_stamp }
+        ensures keeps { Keeps self.old self.new }
+    {
+        let at = conn_at(self.conns.rows(), no);
+        let _ = self.conns.take(at);
+    }
+
+    /// A connection that was handed out comes back, and is offered.
+    #[tactic(auto, unfolding(crate::specs::Machine::back_row))]
+    pub fn give_back(&mut self, row: ConnRow, conn: C, now: u64) -> Done<C>
+        requires room { HasRoom self.old }
+        requires stamp { self.old.next_stamp < 2 ^ 63 }
+        requires number { (C.link conn).number ≡ row.link }
+        ensures reply { result.reply ≡ (back_row self.old.limits (state_of self.old) row now).reply }
+        ensures close { Closes C.link result.close (back_row self.old.limits (state_of self.old) row now).gone }
+        ensures state { state_of self.new ≡ (back_row self.old.limits (state_of self.old) row now).state }
+        ensures keeps { Keeps self.old self.new }
+    {
+        self.take_number(row.conn);
+        let Offered { offer, close } = self.offer_conn(row, conn, now);
+        Done {
+            reply: Reply::Put { offer },
+            close,
+        }
+    }
+
+    /// The row of the least recently idle connection.
+    #[tactic(auto, unfolding(crate::specs::State::take_oldest, crate::specs::State::oldest_stamp))]
+    fn oldest_row(&self) -> Option<ConnRow>
+        ensures { result ≡ (take_oldest (state_of self.now)).0 }
+    {
+        match oldest(self.conns.rows()) {
+            None => None,
+            Some(stamp) => find_stamped(self.conns.rows(), stamp),
+        }
+    }
+
+    /// Takes out the least recently idle connection, where it is expired.
+    pub fn take_expired(&mut self, now: u64) -> Option<Resting<C>>
+        ensures row { IfSome result (λ r. (take_oldest (state_of self.old)).0 ≡ Some r.row) }
+        ensures state { IfSome result (λ r. state_of self.new ≡ (take_oldest (state_of self.old)).1) }
+        ensures expired { IfSome result (λ r. is_expired self.old.limits (since_of r.row.place) now ≡ true) }
+        ensures number { IfSome result (λ r. (C.link r.conn).number ≡ r.row.link) }
+        ensures none { IfNone result (expire_by self.old.limits now (take_oldest (state_of self.old)) ≡ None) }
+        ensures same { IfNone result (self.new ≡ self.old) }
+        ensures keeps { Keeps self.old self.new }
+    {
+        match self.oldest_row() {
+            Some(oldest) => {
+                if self.is_expired(oldest.place.since(), now) {
+                    self.take_oldest()
+                } else {
+                    None
+                }
+            }
+            None => None,
+        }
+    }
+
     /// A connection that is out is given up.
-    #[tactic(auto, using(crate::proofs::Edits::length_left), unfolding(crate::specs::Machine::drop_row))]
+    #[tactic(auto, unfolding(crate::specs::Machine::drop_row))]
     pub fn drop_conn(&mut self, row: ConnRow) -> Reply
         requires { vec_len self.old.wants < vec_capacity self.old.wants }
         ensures reply { result ≡ (drop_row self.old.limits (state_of self.old) row).reply }
         ensures state { state_of self.new ≡ (drop_row self.old.limits (state_of self.old) row).state }
         ensures keeps { Keeps self.old self.new }
     {
-        let at = conn_at(self.conns.rows(), row.conn);
-        let _ = self.conns.take(at);
+        self.take_number(row.conn);
         Reply::Dropped {
             next: self.grant(row.host),
         }

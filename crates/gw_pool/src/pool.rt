@@ -6,7 +6,7 @@ ghost use Rattle.gw_pool.specs.State.{wants_it, is_with, dials_for, has_number};
 ghost use Rattle.gw_pool.specs.Idle.{idle_links};
 ghost use Rattle.gw_pool.specs.Shelf.{is_taken};
 ghost use Rattle.gw_pool.specs.Machine.{units, standing};
-ghost use Rattle.gw_pool.specs.Core.{CoreView, state_at, WantDone, AskDone, StartDone, Done as DoneBy, DonePut, CancelDone, Looks, IsOut, IsQuiet, entry_of};
+ghost use Rattle.gw_pool.specs.Core.{CoreView, state_at, WantDone, AskDone, StartDone, Done as DoneBy, DonePut, CancelDone, Looks, IsOut, IsBack, IdleDone, IsQuiet, entry_of};
 
 use crate::answers::{CoreAsk, CoreWant};
 use crate::conns::{find_conn, find_conn_with};
@@ -15,7 +15,7 @@ use crate::leases::Put;
 use crate::limits::Limits;
 use crate::machine::{Done, Rows};
 use crate::rows::{Place, Stage};
-use crate::shelf::{Shelf, Shelved};
+use crate::shelf::{Resting, Shelf, Shelved};
 use crate::wants::{find_dial, find_want};
 use gw_wire::Link;
 use std::alloc::{AllocError, Global};
@@ -225,6 +225,30 @@ impl<C: Link> PoolCore<C> {
         }
     }
 
+    /// A connection that is out is given back for further use: it goes to the least want of its host, becomes idle, or
+    /// is to be closed.
+    pub fn give_back(&mut self, no: u64, conn: C, now: u64) -> Put<C>
+        requires { IsBack C.link conn (find (has_number no) (state_at self.old).conns) }
+        ensures { DonePut C.link self.old self.new (call.GiveBack no now) result.close }
+    {
+        match find_conn(self.rows.conns.rows(), no) {
+            Some(row) => match row.place {
+                Place::Out { caller, .. } => {
+                    let Done { reply, close } = self.rows.give_back(row, conn, now);
+                    enter(
+                        &mut self.journal,
+                        caller,
+                        Call::GiveBack { conn: no, now },
+                        reply,
+                    );
+                    Put { close }
+                }
+                Place::Idle { .. } => unreachable!(),
+            },
+            None => unreachable!(),
+        }
+    }
+
     /// A connection that is out is given up.
     pub fn drop_conn(&mut self, no: u64)
         requires { IsOut (find (has_number no) (state_at self.old).conns) }
@@ -239,6 +263,38 @@ impl<C: Link> PoolCore<C> {
                 Place::Idle { .. } => unreachable!(),
             },
             None => unreachable!(),
+        }
+    }
+
+    /// Takes out the least recently idle connection, which the caller closes, where it is expired; else nothing is
+    /// entered.
+    pub fn expire(&mut self, caller: u32, now: u64) -> Option<C>
+        requires { caller < self.old.limits.passes }
+        ensures { IdleDone C.link self.old self.new caller (call.Expire now) result }
+    {
+        match self.rows.take_expired(now) {
+            Some(Resting { row, conn }) => {
+                let reply = Reply::Taken { conn: row.conn };
+                enter(&mut self.journal, caller, Call::Expire { now }, reply);
+                Some(conn)
+            }
+            None => None,
+        }
+    }
+
+    /// Takes out the least recently idle connection, which the caller closes; None where none is idle, and nothing is
+    /// entered then.
+    pub fn close_idle(&mut self, caller: u32) -> Option<C>
+        requires { caller < self.old.limits.passes }
+        ensures { IdleDone C.link self.old self.new caller call.CloseIdle result }
+    {
+        match self.rows.take_oldest() {
+            Some(Resting { row, conn }) => {
+                let reply = Reply::Taken { conn: row.conn };
+                enter(&mut self.journal, caller, Call::CloseIdle, reply);
+                Some(conn)
+            }
+            None => None,
         }
     }
 

@@ -104,6 +104,7 @@ impl<C: Link> Shelf<C> {
         ensures left { (test : ConnRow → Bool) → at ≡ position test self.old.rows → self.new.rows ≡ remove_first test self.old.rows }
         ensures kept { IfSome result (λ s. IsKept C.link self.old.taken s.row s.conn) }
         ensures taken { LeavesTaken self.old.taken self.new.taken }
+        ensures none { IfNone result (self.new ≡ self.old) }
         ensures room { self.new.room ≡ self.old.room }
     {
         match at {

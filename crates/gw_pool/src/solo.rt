@@ -3,7 +3,7 @@
 ghost use Rattle.std.specs.Prelude.{◌≡◌, ◌<◌, [], map, IfOk, IfErr};
 ghost use Rattle.gw_pool.specs.History.{IsLegal, AreBelow};
 ghost use Rattle.gw_pool.specs.Idle.{idle_links};
-ghost use Rattle.gw_pool.specs.Lent.{LeaseOf, DropStep};
+ghost use Rattle.gw_pool.specs.Lent.{LeaseOf, BackStep, DropStep};
 
 use crate::answers::{Closed, CoreAsk, CoreWant};
 use crate::holding::{Holding, Tokens};
@@ -145,6 +145,22 @@ impl<C: Link> Leases<C> for Solo<C> {
         self.core.cancel(want, now)
     }
 
+    fn give_back(&mut self, l: Lease<C>, now: u64) -> Put<C>
+        requires { LeaseOf C.link self.old l }
+        ensures { BackStep C.link self.old self.new l.no l.want now result }
+    {
+        let Lease {
+            conn,
+            no,
+            want,
+            host: _,
+            link: _,
+            reused: _,
+        } = l;
+        self.out.spend_lease(want);
+        self.core.give_back(no, conn, now)
+    }
+
     fn drop_conn(&mut self, l: Lease<C>) -> C
         requires { LeaseOf C.link self.old l }
         ensures conn { result ≡ l.conn }
@@ -161,5 +177,13 @@ impl<C: Link> Leases<C> for Solo<C> {
         self.out.spend_lease(want);
         self.core.drop_conn(no);
         conn
+    }
+
+    fn expire(&mut self, now: u64) -> Option<C> {
+        self.core.expire(0, now)
+    }
+
+    fn close_idle(&mut self) -> Option<C> {
+        self.core.close_idle(0)
     }
 }

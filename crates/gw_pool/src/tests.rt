@@ -1,14 +1,16 @@
-//! The first exchange, by a caller of any leases, over ample memory.
+//! Exchanges by a caller of any leases, over ample memory.
 
 ghost use Rattle.std.specs.Prelude.{◌≡◌, ◌<◌, ◌∷◌, []};
 ghost use Rattle.gw_pool.specs.History.{IsLegal};
-ghost use Rattle.gw_pool.specs.Tokens.{ticket_of};
+ghost use Rattle.gw_pool.specs.Lent.{LeaseOf};
+ghost use Rattle.gw_pool.specs.Tokens.{ticket_of, leased};
 
 use crate::answers::Closed;
-use crate::leases::{Ask, Leases, Put, Start, Ticket, Want};
+use crate::leases::{Ask, Lease, Leases, Put, Start, Ticket, Want};
 use crate::limits::Limits;
 use crate::pool::PoolCore;
 use crate::solo::Solo;
+use gw_wire::Link;
 use std::test::Fail;
 
 fn limits() -> Limits
@@ -99,4 +101,127 @@ fn opened_and_closed(rt: HostRuntime) -> Result<(), Fail> {
         }
         Err(_) => Err("no memory".into()),
     }
+}
+
+/// Gets a connection to a host, by a dial with this link number where none is idle, and gives it back: Some of what is
+/// left to be closed, and None where there was no connection.
+fn round_trip<L: Leases<u64>>(pool: &mut L, host: u32, link: u64, now: u64) -> Option<Option<u64>>
+    requires out { (L.lent pool.old).out ≡ [] }
+    requires host { host < (L.lent pool.old).limits.hosts }
+    requires few { 0 < (L.lent pool.old).limits.per_pass }
+    ensures out { (L.lent pool.new).out ≡ [] }
+    ensures limits { (L.lent pool.new).limits ≡ (L.lent pool.old).limits }
+{
+    let t = match pool.want(host, now) {
+        Want::Ticket(t) => t,
+        Want::Expired(_) => return None,
+        Want::JournalFull => return None,
+    };
+    let t = match pool.ask(t) {
+        Ask::Granted(t) => t,
+        Ask::NotYet(t) => return nothing(pool, t),
+        Ask::Taken(l) => return given_back(pool, l, now),
+        Ask::Failed => return None,
+    };
+    let d = match pool.start(&t) {
+        Start::Go(d) => d,
+        Start::NotGranted => return nothing(pool, t),
+    };
+    let Put { close: _ } = pool.dialed(d, link, now);
+    match pool.ask(t) {
+        Ask::Taken(l) => given_back(pool, l, now),
+        Ask::Granted(t) => nothing(pool, t),
+        Ask::NotYet(t) => nothing(pool, t),
+        Ask::Failed => None,
+    }
+}
+
+fn nothing<L: Leases<u64>>(pool: &mut L, t: Ticket) -> Option<Option<u64>>
+    requires { (L.lent pool.old).out ≡ ticket_of t.want ∷ [] }
+    ensures out { (L.lent pool.new).out ≡ [] }
+    ensures limits { (L.lent pool.new).limits ≡ (L.lent pool.old).limits }
+{
+    let Put { close: _ } = pool.cancel(t, 7);
+    None
+}
+
+fn given_back<C: Link, L: Leases<C>>(pool: &mut L, l: Lease<C>, now: u64) -> Option<Option<C>>
+    requires lease { LeaseOf C.link (L.lent pool.old) l }
+    requires out { (L.lent pool.old).out ≡ leased (ticket_of l.want) ∷ [] }
+    ensures out { (L.lent pool.new).out ≡ [] }
+    ensures limits { (L.lent pool.new).limits ≡ (L.lent pool.old).limits }
+{
+    let Put { close } = pool.give_back(l, now);
+    Some(close)
+}
+
+#[test]
+fn full_journal(rt: HostRuntime) -> Result<(), Fail> {
+    let mut pool = Solo::open(rt.alloc(), limits())?;
+    assert_eq!(rt; round_trip(&mut pool, 0, 40, 7), Some(None));
+    assert_eq!(rt; round_trip(&mut pool, 0, 41, 7), Some(None));
+    assert_eq!(rt; round_trip(&mut pool, 0, 42, 7), Some(None));
+    assert_eq!(rt; round_trip(&mut pool, 0, 43, 7), Some(None));
+    assert_eq!(rt; round_trip(&mut pool, 0, 44, 7), None);
+    match pool.close() {
+        Ok(Closed { journal, idle }) => {
+            assert_eq!(rt; journal.len(), 10);
+            assert_eq!(rt; idle.as_slice(), [40u64].as_slice());
+            Ok(())
+        }
+        Err(_) => Err("no memory".into()),
+    }
+}
+
+#[test]
+fn evicted(rt: HostRuntime) -> Result<(), Fail> {
+    let limits = Limits {
+        idle_total: 1,
+        hosts: 2,
+        journal: 100,
+        ..limits()
+    };
+    let mut pool = Solo::open(rt.alloc(), limits)?;
+    assert_eq!(rt; round_trip(&mut pool, 0, 50, 7), Some(None));
+    assert_eq!(rt; round_trip(&mut pool, 1, 51, 7), Some(Some(50)));
+    assert_eq!(rt; pool.close_idle(), Some(51));
+    assert_eq!(rt; pool.close_idle(), None);
+    Ok(())
+}
+
+#[test]
+fn expired(rt: HostRuntime) -> Result<(), Fail> {
+    let limits = Limits {
+        idle_ms: 1000,
+        journal: 100,
+        ..limits()
+    };
+    let mut pool = Solo::open(rt.alloc(), limits)?;
+    assert_eq!(rt; round_trip(&mut pool, 0, 50, 7), Some(None));
+    assert_eq!(rt; pool.expire(1007), None);
+    assert_eq!(rt; pool.expire(1008), Some(50));
+    assert_eq!(rt; round_trip(&mut pool, 0, 51, 2000), Some(None));
+    match pool.want(0, 3001) {
+        Want::Expired(conn) => {
+            assert_eq!(rt; conn, 51);
+            Ok(())
+        }
+        Want::Ticket(t) => {
+            let _ = nothing(&mut pool, t);
+            Err("an expired connection was handed out".into())
+        }
+        Want::JournalFull => Err("full".into()),
+    }
+}
+
+#[test]
+fn none_idle(rt: HostRuntime) -> Result<(), Fail> {
+    let limits = Limits {
+        idle_per_host: 0,
+        ..limits()
+    };
+    let mut pool = Solo::open(rt.alloc(), limits)?;
+    assert_eq!(rt; round_trip(&mut pool, 0, 50, 7), Some(Some(50)));
+    assert_eq!(rt; pool.close_idle(), None);
+    Ok(())
 }

@@ -7,15 +7,17 @@ use Rattle.std.proofs.lemmas.List.{length-append, length-map}
 use Rattle.std.proofs.lemmas.List.Elements.{All-nil, All-push, All-weaker}
 use Rattle.std.proofs.lemmas.List.Quantifiers.{position-Some}
 use Rattle.serde_json.specs.Data.{Data, Items, no_items, item}
+use Rattle.serde_json.specs.Find.{get}
 use Rattle.gw_wire.specs.declared.values.Addr.{Addr}
 use Rattle.gw_pattern.specs.Pattern.{spelled_of}
-use Rattle.gw_routes.specs.declared.fault.GCode.TheVariants.{OutOfRange}
+use Rattle.gw_routes.specs.declared.fault.GCode.TheVariants.{OutOfRange, WrongKind}
 use Rattle.gw_routes.specs.declared.fault.RouteError.{RouteError}
+use Rattle.gw_routes.specs.declared.kinds.Bounds.{Bounds}
 use Rattle.gw_routes.specs.declared.table.Action.{Action}
 use Rattle.gw_routes.specs.declared.table.Action.TheVariants.{Backend}
 use Rattle.gw_routes.specs.declared.table.Route.{Route}
 use Rattle.gw_routes.specs.declared.table.Table.{Table}
-use Rattle.gw_routes.specs.Kinds.{Said, ◌>>=◌, fault, json_said, list_said, number_said}
+use Rattle.gw_routes.specs.Kinds.{Said, ◌>>=◌, fault, or_fault, json_said, list_said, whole_of, in_range, number_of, number_said}
 use Rattle.gw_routes.specs.Names.{names_said}
 use Rattle.gw_routes.specs.Routes.{RouteList, RouteText, IsWithin, leads_to, is_same, host_at, hosts_at, host_of, route_said, with_route, routes_from, count_of, no_routes, items_said, routes_said}
 use Rattle.gw_routes.specs.Files.{TopText, IsTableOf, AreNumbered, listen_said, workers_bounds, journal_bounds, top_said, file_said}
@@ -98,24 +100,60 @@ full_routes d l e =
     let s = then_ok (list_said (codes "routes") None d) items_said l e in
     full_by s.0 (nat_lt 0 (count_of s.0) && nat_le (count_of s.0) 1024) l refl s.2
 
-full_top : (d : Data) (t : TopText) → top_said d ≡ Ok t → IsFull t.routes
+-- a number that is said is within its bounds
+within_by : (bounds : Bounds) (route : Option ℕ) (n m : ℕ) (b : Bool) → (nat_le bounds.least n && nat_le n bounds.most) ≡ b
+    → in_range bounds.least bounds.most route n ≡ Ok m → (bounds.least ≤ m) × (m ≤ bounds.most)
+unfolding in_range
+within_by bounds route n m true is e =
+    let p = and_parts _ _ is in
+    let Q : Bool → Type 0 = λ b. (if b then Ok n else fault OutOfRange route) ≡ Ok m in
+    let same : n ≡ m = ok_same n m (subst Q is e) in
+    (subst (λ k. bounds.least ≤ k) same (leb-true bounds.least n p.0), subst (λ k. k ≤ bounds.most) same (leb-true n bounds.most p.1))
+within_by bounds route n m false is e =
+    let Q : Bool → Type 0 = λ b. (if b then Ok n else fault OutOfRange route) ≡ Ok m in
+    let wrong : fault OutOfRange route ≡ Ok m = subst Q is e in cc
+
+number_within : (bounds : Bounds) (route : Option ℕ) (o : Option Data) (m : ℕ) → bounds.least ≤ bounds.default → bounds.default ≤ bounds.most
+    → number_of bounds route o ≡ Ok m → (bounds.least ≤ m) × (m ≤ bounds.most)
+unfolding number_of
+number_within bounds route None m low high e =
+    let same : bounds.default ≡ m = ok_same bounds.default m e in
+    (subst (λ k. bounds.least ≤ k) same low, subst (λ k. k ≤ bounds.most) same high)
+number_within bounds route (Some d) m low high e =
+    let s = then_ok (or_fault WrongKind route (whole_of d)) (in_range bounds.least bounds.most route) m e in
+    within_by bounds route s.0 m (nat_le bounds.least s.0 && nat_le s.0 bounds.most) refl s.2
+
+said_within : (name : List ℕ) (bounds : Bounds) (route : Option ℕ) (d : Data) (m : ℕ) → bounds.least ≤ bounds.default → bounds.default ≤ bounds.most
+    → number_said name bounds route d ≡ Ok m → (bounds.least ≤ m) × (m ≤ bounds.most)
+unfolding number_said
+said_within name bounds route d m low high e = number_within bounds route (get name d) m low high e
+
+-- what stands at the top has routes, and one worker
+record IsGood (t : TopText) : Type 0 where
+  routes : IsFull t.routes
+  least : 1 ≤ t.workers
+  most : t.workers ≤ 1
+
+good_top : (d : Data) (t : TopText) → top_said d ≡ Ok t → IsGood t
 unfolding top_said
-full_top d t e =
+good_top d t e =
     let a = then_ok (names_said None d) _ t e in
     let b = then_ok (listen_said d) _ t a.2 in
     let c = then_ok (number_said (codes "workers") workers_bounds None d) _ t b.2 in
     let f = then_ok (number_said (codes "journal") journal_bounds None d) _ t c.2 in
     let g = then_ok (routes_said d) _ t f.2 in
     let same : record { listen = b.0; workers = c.0; journal = f.0; routes = g.0 } ≡ t = ok_same _ t g.2 in
-    subst (λ x. IsFull x.routes) same (full_routes d g.0 g.1)
+    let within = said_within (codes "workers") workers_bounds None d c.0 (omega arith) (omega arith) c.1 in
+    subst (λ x. IsGood x) same (record { routes = full_routes d g.0 g.1; least = within.0; most = within.1 })
 
-full_file : (bytes : List ℕ) (t : TopText) → file_said bytes ≡ Ok t → IsFull t.routes
+good_file : (bytes : List ℕ) (t : TopText) → file_said bytes ≡ Ok t → IsGood t
 unfolding file_said
-full_file bytes t e = let s = then_ok (json_said bytes) top_said t e in full_top s.0 t s.2
+good_file bytes t e = let s = then_ok (json_said bytes) top_said t e in good_top s.0 t s.2
 
-numbered : (t : TopText) (table : Table) → IsFull t.routes → IsTableOf t table → AreNumbered table
-numbered t table full is =
+numbered : (t : TopText) (table : Table) → IsGood t → IsTableOf t table → AreNumbered table
+numbered t table good is =
     let same = is.routes in
+    let full = good.routes in
     let R : List Route → Type 0 = λ routes. All (λ r. IsWithin (length table.hosts.items) r.action) routes in
     let H : List Addr → Type 0 = λ hosts. All (λ r. IsWithin (length hosts) r.action) t.routes.routes in
     record {
@@ -123,8 +161,13 @@ numbered t table full is =
       few = rw is.routes full.few;
       paired = sym (length-map table.mux spelled_of) ∙ ap length is.patterns ∙ full.listed.paired ∙ ap length (sym is.routes);
       hosts = subst R (sym is.routes) (subst H (sym is.hosts) full.listed.hosts);
+      least = rw is.workers good.least;
+      most = rw is.workers good.most;
+      passes = ap (λ l. l.passes) is.limits ∙ sym is.workers;
+      one = ap (λ l. l.per_pass) is.limits;
+      pooled = ap (λ l. l.hosts) is.limits ∙ ap length (sym is.hosts);
     }
 
 pub numbers_of : (bytes : List ℕ) (t : TopText) (refused : RouteError → Type 0) (result : Result Table RouteError) → file_said bytes ≡ Ok t → MatchResult result (IsTableOf t) refused → IfOk result AreNumbered
-numbers_of bytes t refused (Ok table) e is = numbered t table (full_file bytes t e) is
+numbers_of bytes t refused (Ok table) e is = numbered t table (good_file bytes t e) is
 numbers_of bytes t refused (Err error) e is = tt

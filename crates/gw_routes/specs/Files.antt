@@ -95,9 +95,15 @@ RefusesTop top (Bad code route pattern) = ⊥
 RefusesTop top (Conflict first second) = IsFirstConflict top.routes.patterns.items first second
 RefusesTop top NoMemory = Unit {0}
 
--- what the numbers of a table tell: its routes have the numbers of its patterns, and their hosts are the table's
+-- what the numbers of a table tell: its routes have the numbers of its patterns, their hosts are the table's, and the
+-- pool has a pass for each worker and each of the hosts
 pub record AreNumbered (table : Table) : Type 0 where
   pub some : 0 < length table.routes.items
   pub few : length table.routes.items ≤ 1024
   pub paired : length table.mux ≡ length table.routes.items
   pub hosts : All (λ r. IsWithin (length table.hosts.items) r.action) table.routes.items
+  pub least : 1 ≤ table.workers
+  pub most : table.workers ≤ 1
+  pub passes : table.limits.passes ≡ table.workers
+  pub one : table.limits.per_pass ≡ 1
+  pub pooled : table.limits.hosts ≡ length table.hosts.items

@@ -14,7 +14,7 @@ use Rattle.gw_wire.proofs.StretchLemmas.{Logs-none, Told-map, Told-then, Told-ac
 use Rattle.gw_head.specs.declared.error.HeadError.{HeadError}
 use Rattle.gw_head.specs.declared.request.RequestHead.{RequestHead}
 use Rattle.gw_head.specs.Head.{RequestHeadOf, BadRequestHead}
-use Rattle.gw_head.specs.Stage.{Stage, Gives, Refuses, GoesOn as Undecided}
+use Rattle.gw_head.specs.Stage.{Stage, bytes_of, Gives, Refuses, GoesOn as Undecided}
 use Rattle.gw_top.specs.declared.request.Request.TheVariants as request
 use Rattle.gw_top.specs.declared.waits.Heard.TheVariants as heard
 use Rattle.gw_top.specs.Hearing.{IsReadOf, Reads, Breaks, Began, HearsRequest, Hearing, IsRefusedRequest}
@@ -59,39 +59,32 @@ behind_head stream piece kept used k =
     rw k (ap (λ p. stream ++ p) (sym (take-append-drop used piece)) ∙ sym (append_assoc stream (take used piece) (drop used piece)))
 
 pub head_heard : (old new : Option (List Act)) (k used : ℕ) (stream piece : List ℕ) (head : RequestHead) (stage : Stage)
-    → Told old new (Reads k (stream ++ piece)) → Gives RequestHeadOf stream piece used head stage → Told old new (HearsRequest k (request.Head head))
+    → Told old new (Reads k (stream ++ piece)) → Gives RequestHeadOf stream piece used head stage → Told old new (HearsRequest k (bytes_of stage) (request.Head head))
 head_heard old new k used stream piece head stage told g =
-    let all : stream ++ piece ≡ head.bytes ++ drop used piece = behind_head stream piece head.bytes used g.is_head.kept in
-    let is_head : RequestHeadOf head.bytes head = let P : List ℕ → Type 0 = λ b. RequestHeadOf b head in subst P (sym g.is_head.kept) g.is_head in
-    Told-map old new (Reads k (stream ++ piece)) (HearsRequest k (request.Head head))
-    (λ l r. (drop used piece, is_head, (let P : List ℕ → Type 0 = λ b. Reads k b l in subst P all r))) told
+    let text : bytes_of stage ≡ stream ++ take used piece = ap bytes_of g.stage in
+    let all : stream ++ piece ≡ (stream ++ take used piece) ++ drop used piece = behind_head stream piece (stream ++ take used piece) used refl in
+    let P : List ℕ → Type 0 = λ t. Told old new (HearsRequest k t (request.Head head)) in
+    subst P (sym text) (Told-map old new (Reads k (stream ++ piece)) (HearsRequest k (stream ++ take used piece) (request.Head head))
+    (λ l r. (drop used piece, g.is_head, (let Q : List ℕ → Type 0 = λ b. Reads k b l in subst Q all r))) told)
 
 refused_by : (used : ℕ) (stream piece : List ℕ) (error : HeadError) (stage : Stage) → Refuses BadRequestHead stream piece used error stage
-    → IsRefusedRequest (stream ++ piece)
+    → IsRefusedRequest error (stream ++ piece)
 refused_by used stream piece error stage r =
     elim r.cause [
-      | inl c ↦ inl (
-        stream ++ take used piece,
-        drop used piece,
-        behind_head stream piece (stream ++ take used piece) used refl,
-        (let P : HeadError → Type 0 = λ e. BadRequestHead (stream ++ take used piece) e in subst P c.1.malformed c.1),
-      )
-      | inr c ↦ inr c.0
+      | inl c ↦ inl (stream ++ take used piece, drop used piece, behind_head stream piece (stream ++ take used piece) used refl, c.1)
+      | inr c ↦ inr (c.0, c.2)
     ]
 
-pub refusal_heard : (old new : Option (List Act)) (k used : ℕ) (stream piece : List ℕ) (error : HeadError) (stage : Stage)
-    → Told old new (Reads k (stream ++ piece)) → Refuses BadRequestHead stream piece used error stage → Told old new (HearsRequest k request.Refused)
-refusal_heard old new k used stream piece error stage told r =
-    Told-map old new (Reads k (stream ++ piece)) (HearsRequest k request.Refused) (λ l p. (stream ++ piece, refused_by used stream piece error stage r, p)) told
+pub refusal_heard : (old new : Option (List Act)) (k used : ℕ) (text stream piece : List ℕ) (error : HeadError) (stage : Stage)
+    → Told old new (Reads k (stream ++ piece)) → Refuses BadRequestHead stream piece used error stage → Told old new (HearsRequest k text (request.Refused error))
+refusal_heard old new k used text stream piece error stage told r =
+    Told-map old new (Reads k (stream ++ piece)) (HearsRequest k text (request.Refused error)) (λ l p. (stream ++ piece, refused_by used stream piece error stage r, p)) told
 
--- memory was wanting before a byte came, or where a whole head stood
-pub want_first : (log : Option (List Act)) (k : ℕ) → Told log log (HearsRequest k (request.NoMemory false))
-want_first log k = Told-map log log (Reads k []) (HearsRequest k (request.NoMemory false)) (λ l p. ([], refl, p)) (told_none log k)
-
-pub want_heard : (old new : Option (List Act)) (k : ℕ) (stream piece : List ℕ) → 0 < length piece → Told old new (Reads k (stream ++ piece))
-    → Told old new (HearsRequest k (request.NoMemory true))
-want_heard old new k stream piece one told =
-    Told-map old new (Reads k (stream ++ piece)) (HearsRequest k (request.NoMemory true))
+-- memory was wanting where a whole head stood
+pub want_heard : (old new : Option (List Act)) (k : ℕ) (text stream piece : List ℕ) → 0 < length piece → Told old new (Reads k (stream ++ piece))
+    → Told old new (HearsRequest k text request.NoMemory)
+want_heard old new k text stream piece one told =
+    Told-map old new (Reads k (stream ++ piece)) (HearsRequest k text request.NoMemory)
     (λ l p. (stream ++ piece, rw (length-append stream piece) (omega arith), p)) told
 
 -- the client said nothing more
@@ -99,10 +92,10 @@ began_is : (pieces : ℕ) (stream : List ℕ) (began : Bool) → began ≡ nat_l
 began_is zero stream began e n s = rw e (n refl)
 began_is (suc pieces) stream began e n s = rw (e ∙ lt-ltb 0 (suc pieces) (omega arith)) (omega arith)
 
-pub gone_heard : (old mid new : Option (List Act)) (k pieces : ℕ) (acts : List Act) (stream : List ℕ) (began : Bool) → began ≡ nat_lt 0 pieces
-    → Hearing k pieces old mid stream → Logs mid new acts → Breaks k acts → Told old new (HearsRequest k (request.Gone began))
-gone_heard old mid new k pieces acts stream began e h logs breaks =
-    Told-map old new (Then (Reads k stream) (Acts acts)) (HearsRequest k (request.Gone began))
+pub gone_heard : (old mid new : Option (List Act)) (k pieces : ℕ) (acts : List Act) (text stream : List ℕ) (began : Bool) → began ≡ nat_lt 0 pieces
+    → Hearing k pieces old mid stream → Logs mid new acts → Breaks k acts → Told old new (HearsRequest k text (request.Gone began))
+gone_heard old mid new k pieces acts text stream began e h logs breaks =
+    Told-map old new (Then (Reads k stream) (Acts acts)) (HearsRequest k text (request.Gone began))
     (λ l p. (
       stream,
       h.undecided,
@@ -111,10 +104,10 @@ gone_heard old mid new k pieces acts stream began e h logs breaks =
     ))
     (Told-then old mid new (Reads k stream) (Acts acts) h.log (Told-acts mid new acts logs))
 
-pub silent_heard : (old mid new : Option (List Act)) (k pieces : ℕ) (stream : List ℕ) (began : Bool) → began ≡ nat_lt 0 pieces
-    → Hearing k pieces old mid stream → Logs mid new [] → Told old new (HearsRequest k (request.Silent began))
-silent_heard old mid new k pieces stream began e h logs =
-    Told-map old new (Reads k stream) (HearsRequest k (request.Silent began))
+pub silent_heard : (old mid new : Option (List Act)) (k pieces : ℕ) (text stream : List ℕ) (began : Bool) → began ≡ nat_lt 0 pieces
+    → Hearing k pieces old mid stream → Logs mid new [] → Told old new (HearsRequest k text (request.Silent began))
+silent_heard old mid new k pieces text stream began e h logs =
+    Told-map old new (Reads k stream) (HearsRequest k text (request.Silent began))
     (λ l p. (stream, h.undecided, began_is pieces stream began e h.none h.some, p)) (Told-before_quiet old mid new (Reads k stream) h.log logs)
 
 pub more_heard : (old new : Option (List Act)) (k pieces used : ℕ) (stream piece : List ℕ) (stage : Stage) → pieces ≤ length stream → 0 < length piece

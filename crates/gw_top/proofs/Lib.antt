@@ -1,9 +1,11 @@
-pub mod AddressLemmas
-pub mod AttemptLemmas
-pub mod ExchangeLemmas
-pub mod HearLemmas
-pub mod LeaseLemmas
-pub mod PoolLemmas
-pub mod RunLemmas
-pub mod TopLemmas
-pub mod WaitLemmas
+mod AttemptLemmas
+mod ExchangeLemmas
+mod HearLemmas
+mod InspectLemmas
+mod LeaseLemmas
+mod LoadLemmas
+mod PlanLemmas
+mod PoolLemmas
+mod RunLemmas
+mod TopLemmas
+mod WaitLemmas

@@ -28,7 +28,6 @@ use Rattle.gw_pool.specs.declared.rows.Stage.{Stage}
 use Rattle.gw_pool.specs.declared.rows.Stage.TheVariants.{Granted, Dialing}
 use Rattle.gw_pool.specs.declared.rows.WantRow.{WantRow}
 use Rattle.gw_pool.specs.State.{State, is_free, used, newest_stamp, take_newest, least_waiting, remove_first, wants_it, dials_for, has_number, is_with}
-use Rattle.gw_top.specs.RouteFile.{default_limits}
 use Rattle.gw_top.specs.Leased.{bare, granted, dialing, connected, Stands, Grows, IsVacant, IsGranted, IsDialing, IsConnected, IsLeased, lent_to, made_want, made_drop}
 
 -- nobody else made an entry
@@ -83,7 +82,6 @@ called old new s out tokens others asked outcome o count st c f l =
         number = c.meets.number ∙ st.number;
         alone = ap (λ m. m.passes) c.meets.limits ∙ st.alone;
         one = rw c.meets.limits st.one;
-        hosts = rw c.meets.limits st.hosts;
       };
       grows = record {
         limits = c.meets.limits;
@@ -116,7 +114,6 @@ looked old new s out tokens others count st c l =
         number = c.meets.number ∙ st.number;
         alone = ap (λ m. m.passes) c.meets.limits ∙ st.alone;
         one = rw c.meets.limits st.one;
-        hosts = rw c.meets.limits st.hosts;
       };
       grows = record {
         limits = c.meets.limits;
@@ -134,129 +131,129 @@ or_more : (a b : Bool) → b ≡ true → (a || b) ≡ true
 or_more true b e = refl
 or_more false b e = e
 
-pub free_of : (limits : Limits) (s : State) (n : ℕ) → limits.conns_per_host ≡ n → used s 0 ≡ 0 → is_free limits s 0 ≡ true
+pub free_of : (limits : Limits) (s : State) (h n : ℕ) → limits.conns_per_host ≡ n → used s h ≡ 0 → is_free limits s h ≡ true
 unfolding is_free
-free_of limits s zero e u = ap (λ m. (m == 0) || nat_lt (used s 0) m) e
-free_of limits s (suc n) e u =
-    ap (λ m. (m == 0) || nat_lt (used s 0) m) e ∙ ap (λ m. (suc n == 0) || nat_lt m (suc n)) u ∙ or_more (suc n == 0) (nat_lt 0 (suc n)) (lt-ltb 0 (suc n) (omega arith))
+free_of limits s h zero e u = ap (λ m. (m == 0) || nat_lt (used s h) m) e
+free_of limits s h (suc n) e u =
+    ap (λ m. (m == 0) || nat_lt (used s h) m) e ∙ ap (λ m. (suc n == 0) || nat_lt m (suc n)) u ∙ or_more (suc n == 0) (nat_lt 0 (suc n)) (lt-ltb 0 (suc n) (omega arith))
 
-pub want_step_is : (limits : Limits) (w c t at : ℕ) → 0 < limits.per_pass
-    → step limits (bare w c t) 0 (call.Want 0 at) ≡ Some (record { reply = reply.Granted w; gone = None; state = granted w c t })
+pub want_step_is : (limits : Limits) (h w c t at : ℕ) → 0 < limits.per_pass
+    → step limits (bare w c t) 0 (call.Want h at) ≡ Some (record { reply = reply.Granted w; gone = None; state = granted h w c t })
 unfolding step want_step want_by want_new take_newest newest_stamp units used
-want_step_is limits w c t at one =
-    rw (lt-ltb 0 limits.per_pass one, free_of limits (bare w c t) limits.conns_per_host refl refl) refl
+want_step_is limits h w c t at one =
+    rw (lt-ltb 0 limits.per_pass one, free_of limits (bare w c t) h limits.conns_per_host refl refl) refl
 
-abbrev pub want_row : ℕ → Stage → WantRow
-want_row w stage = record { want = w; host = 0; caller = 0; stage = stage }
+abbrev pub want_row : ℕ → ℕ → Stage → WantRow
+want_row h w stage = record { want = w; host = h; caller = 0; stage = stage }
 
-abbrev pub dial_row : ℕ → DialRow
-dial_row w = record { want = w; host = 0; caller = 0 }
+abbrev pub dial_row : ℕ → ℕ → DialRow
+dial_row h w = record { want = w; host = h; caller = 0 }
 
-abbrev pub conn_row : ℕ → ℕ → ℕ → ConnRow
-conn_row w c link = record { conn = c; host = 0; link = link; reused = false; place = Out w 0 }
+abbrev pub conn_row : ℕ → ℕ → ℕ → ℕ → ConnRow
+conn_row h w c link = record { conn = c; host = h; link = link; reused = false; place = Out w 0 }
 
 -- the only row of a list is found by its number, and taken out by it
-one_want : (w : ℕ) (stage : Stage) → find (wants_it w) (want_row w stage ∷ []) ≡ Some (want_row w stage)
-one_want w stage = rw (eq-eqb w w refl) refl
+one_want : (h w : ℕ) (stage : Stage) → find (wants_it w) (want_row h w stage ∷ []) ≡ Some (want_row h w stage)
+one_want h w stage = rw (eq-eqb w w refl) refl
 
-no_want : (w : ℕ) (stage : Stage) → remove_first (wants_it w) (want_row w stage ∷ []) ≡ []
-no_want w stage = rw (eq-eqb w w refl) refl
+no_want : (h w : ℕ) (stage : Stage) → remove_first (wants_it w) (want_row h w stage ∷ []) ≡ []
+no_want h w stage = rw (eq-eqb w w refl) refl
 
-one_dial : (w : ℕ) → find (dials_for w) (dial_row w ∷ []) ≡ Some (dial_row w)
-one_dial w = rw (eq-eqb w w refl) refl
+one_dial : (h w : ℕ) → find (dials_for w) (dial_row h w ∷ []) ≡ Some (dial_row h w)
+one_dial h w = rw (eq-eqb w w refl) refl
 
-no_dial : (w : ℕ) → remove_first (dials_for w) (dial_row w ∷ []) ≡ []
-no_dial w = rw (eq-eqb w w refl) refl
+no_dial : (h w : ℕ) → remove_first (dials_for w) (dial_row h w ∷ []) ≡ []
+no_dial h w = rw (eq-eqb w w refl) refl
 
-one_conn : (w c link : ℕ) → find (has_number c) (conn_row w c link ∷ []) ≡ Some (conn_row w c link)
-one_conn w c link = rw (eq-eqb c c refl) refl
+one_conn : (h w c link : ℕ) → find (has_number c) (conn_row h w c link ∷ []) ≡ Some (conn_row h w c link)
+one_conn h w c link = rw (eq-eqb c c refl) refl
 
-no_conn : (w c link : ℕ) → remove_first (has_number c) (conn_row w c link ∷ []) ≡ []
-no_conn w c link = rw (eq-eqb c c refl) refl
+no_conn : (h w c link : ℕ) → remove_first (has_number c) (conn_row h w c link ∷ []) ≡ []
+no_conn h w c link = rw (eq-eqb c c refl) refl
 
 -- the want may dial
-start_row_is : (w c t : ℕ) → start_row (granted w c t) (want_row w Granted) ≡ record { reply = reply.Go; gone = None; state = dialing w c t }
+start_row_is : (h w c t : ℕ) → start_row (granted h w c t) (want_row h w Granted) ≡ record { reply = reply.Go; gone = None; state = dialing h w c t }
 unfolding start_row
-start_row_is w c t =
-    ap (λ l. record { reply = reply.Go; gone = None; state = record (granted w c t) { wants = l ++ want_row w Dialing ∷ []; dials = dial_row w ∷ [] } }) (no_want w Granted)
+start_row_is h w c t =
+    ap (λ l. record { reply = reply.Go; gone = None; state = record (granted h w c t) { wants = l ++ want_row h w Dialing ∷ []; dials = dial_row h w ∷ [] } }) (no_want h w Granted)
 
-pub start_step_is : (limits : Limits) (w c t : ℕ)
-    → step limits (granted w c t) 0 (call.Start w) ≡ Some (record { reply = reply.Go; gone = None; state = dialing w c t })
+pub start_step_is : (limits : Limits) (h w c t : ℕ)
+    → step limits (granted h w c t) 0 (call.Start w) ≡ Some (record { reply = reply.Go; gone = None; state = dialing h w c t })
 unfolding step start_by
-start_step_is limits w c t = ap (λ o. start_by (granted w c t) 0 o) (one_want w Granted) ∙ ap (λ o. Some o) (start_row_is w c t)
+start_step_is limits h w c t = ap (λ o. start_by (granted h w c t) 0 o) (one_want h w Granted) ∙ ap (λ o. Some o) (start_row_is h w c t)
 
 -- its dial gave a connection
-dialed_row_is : (limits : Limits) (w c t link at : ℕ)
-    → dialed_row limits (dialing w c t) (dial_row w) link at ≡ record { reply = reply.Kept c; gone = None; state = connected w c link t }
+dialed_row_is : (limits : Limits) (h w c t link at : ℕ)
+    → dialed_row limits (dialing h w c t) (dial_row h w) link at ≡ record { reply = reply.Kept c; gone = None; state = connected h w c link t }
 unfolding dialed_row dialed_to dialed_conn
-dialed_row_is limits w c t link at =
-    ap (λ o. dialed_to limits (record (dialing w c t) { dials = remove_first (dials_for w) (dial_row w ∷ []) }) (dial_row w) link at o) (one_want w Dialing)
+dialed_row_is limits h w c t link at =
+    ap (λ o. dialed_to limits (record (dialing h w c t) { dials = remove_first (dials_for w) (dial_row h w ∷ []) }) (dial_row h w) link at o) (one_want h w Dialing)
     ∙ ap (λ l. record {
       reply = reply.Kept c;
       gone = None;
-      state = record (connected w c link t) { dials = l; wants = remove_first (wants_it w) (want_row w Dialing ∷ []) };
-    }) (no_dial w)
-    ∙ ap (λ l. record { reply = reply.Kept c; gone = None; state = record (connected w c link t) { wants = l } }) (no_want w Dialing)
+      state = record (connected h w c link t) { dials = l; wants = remove_first (wants_it w) (want_row h w Dialing ∷ []) };
+    }) (no_dial h w)
+    ∙ ap (λ l. record { reply = reply.Kept c; gone = None; state = record (connected h w c link t) { wants = l } }) (no_want h w Dialing)
 
-pub dialed_step_is : (limits : Limits) (w c t link at : ℕ)
-    → step limits (dialing w c t) 0 (call.Dialed w link at) ≡ Some (record { reply = reply.Kept c; gone = None; state = connected w c link t })
+pub dialed_step_is : (limits : Limits) (h w c t link at : ℕ)
+    → step limits (dialing h w c t) 0 (call.Dialed w link at) ≡ Some (record { reply = reply.Kept c; gone = None; state = connected h w c link t })
 unfolding step dialed_by
-dialed_step_is limits w c t link at = ap (λ o. dialed_by limits (dialing w c t) 0 link at o) (one_dial w) ∙ ap (λ o. Some o) (dialed_row_is limits w c t link at)
+dialed_step_is limits h w c t link at = ap (λ o. dialed_by limits (dialing h w c t) 0 link at o) (one_dial h w) ∙ ap (λ o. Some o) (dialed_row_is limits h w c t link at)
 
 -- a place that is free goes to nobody
-grant_bare : (limits : Limits) (w c t : ℕ) → grant limits (bare w c t) 0 ≡ (None, bare w c t)
+grant_bare : (limits : Limits) (h w c t : ℕ) → grant limits (bare w c t) h ≡ (None, bare w c t)
 unfolding grant grant_to least_waiting used
-grant_bare limits w c t = rw (free_of limits (bare w c t) limits.conns_per_host refl refl) refl
+grant_bare limits h w c t = rw (free_of limits (bare w c t) h limits.conns_per_host refl refl) refl
 
 -- its dial failed
 abbrev ended : Option ℕ × State → Outcome
 ended (next, s) = record { reply = reply.Ended next; gone = None; state = s }
 
-failed_row_is : (limits : Limits) (w c t : ℕ)
-    → failed_row limits (dialing w c t) (dial_row w) ≡ record { reply = reply.Ended None; gone = None; state = bare (w + 1) c t }
+failed_row_is : (limits : Limits) (h w c t : ℕ)
+    → failed_row limits (dialing h w c t) (dial_row h w) ≡ record { reply = reply.Ended None; gone = None; state = bare (w + 1) c t }
 unfolding failed_row failed_to
-failed_row_is limits w c t =
-    ap (λ o. failed_to limits (record (dialing w c t) { dials = remove_first (dials_for w) (dial_row w ∷ []) }) (dial_row w) o) (one_want w Dialing)
-    ∙ ap (λ l. ended (grant limits (record (bare (w + 1) c t) { dials = l; wants = remove_first (wants_it w) (want_row w Dialing ∷ []) }) 0)) (no_dial w)
-    ∙ ap (λ l. ended (grant limits (record (bare (w + 1) c t) { wants = l }) 0)) (no_want w Dialing)
-    ∙ ap ended (grant_bare limits (w + 1) c t)
+failed_row_is limits h w c t =
+    ap (λ o. failed_to limits (record (dialing h w c t) { dials = remove_first (dials_for w) (dial_row h w ∷ []) }) (dial_row h w) o) (one_want h w Dialing)
+    ∙ ap (λ l. ended (grant limits (record (bare (w + 1) c t) { dials = l; wants = remove_first (wants_it w) (want_row h w Dialing ∷ []) }) h)) (no_dial h w)
+    ∙ ap (λ l. ended (grant limits (record (bare (w + 1) c t) { wants = l }) h)) (no_want h w Dialing)
+    ∙ ap ended (grant_bare limits h (w + 1) c t)
 
-pub failed_step_is : (limits : Limits) (w c t : ℕ)
-    → step limits (dialing w c t) 0 (call.DialFailed w) ≡ Some (record { reply = reply.Ended None; gone = None; state = bare (w + 1) c t })
+pub failed_step_is : (limits : Limits) (h w c t : ℕ)
+    → step limits (dialing h w c t) 0 (call.DialFailed w) ≡ Some (record { reply = reply.Ended None; gone = None; state = bare (w + 1) c t })
 unfolding step failed_by
-failed_step_is limits w c t = ap (λ o. failed_by limits (dialing w c t) 0 o) (one_dial w) ∙ ap (λ o. Some o) (failed_row_is limits w c t)
+failed_step_is limits h w c t = ap (λ o. failed_by limits (dialing h w c t) 0 o) (one_dial h w) ∙ ap (λ o. Some o) (failed_row_is limits h w c t)
 
 -- the connection is dropped
 abbrev dropped : ConnRow → Option ℕ × State → Outcome
 dropped row (next, s) = record { reply = reply.Dropped next; gone = Some row; state = s }
 
-drop_row_is : (limits : Limits) (w c link t : ℕ)
-    → drop_row limits (connected w c link t) (conn_row w c link) ≡ record { reply = reply.Dropped None; gone = Some (conn_row w c link); state = bare (w + 1) (c + 1) t }
+drop_row_is : (limits : Limits) (h w c link t : ℕ)
+    → drop_row limits (connected h w c link t) (conn_row h w c link) ≡ record { reply = reply.Dropped None; gone = Some (conn_row h w c link); state = bare (w + 1) (c + 1) t }
 unfolding drop_row
-drop_row_is limits w c link t =
-    ap (λ l. dropped (conn_row w c link) (grant limits (record (bare (w + 1) (c + 1) t) { conns = l }) 0)) (no_conn w c link)
-    ∙ ap (dropped (conn_row w c link)) (grant_bare limits (w + 1) (c + 1) t)
+drop_row_is limits h w c link t =
+    ap (λ l. dropped (conn_row h w c link) (grant limits (record (bare (w + 1) (c + 1) t) { conns = l }) h)) (no_conn h w c link)
+    ∙ ap (dropped (conn_row h w c link)) (grant_bare limits h (w + 1) (c + 1) t)
 
-pub drop_step_is : (limits : Limits) (w c link t : ℕ)
-    → step limits (connected w c link t) 0 (call.Drop c) ≡ Some (record { reply = reply.Dropped None; gone = Some (conn_row w c link); state = bare (w + 1) (c + 1) t })
+pub drop_step_is : (limits : Limits) (h w c link t : ℕ)
+    → step limits (connected h w c link t) 0 (call.Drop c) ≡ Some (record { reply = reply.Dropped None; gone = Some (conn_row h w c link); state = bare (w + 1) (c + 1) t })
 unfolding step drop_by
-drop_step_is limits w c link t = ap (λ o. drop_by limits (connected w c link t) 0 o) (one_conn w c link) ∙ ap (λ o. Some o) (drop_row_is limits w c link t)
+drop_step_is limits h w c link t = ap (λ o. drop_by limits (connected h w c link t) 0 o) (one_conn h w c link) ∙ ap (λ o. Some o) (drop_row_is limits h w c link t)
 
 -- how the want stands
-pub granted_stands : (w c t : ℕ) → standing (granted w c t) w ≡ MayDial
+pub granted_stands : (h w c t : ℕ) → standing (granted h w c t) w ≡ MayDial
 unfolding standing
-granted_stands w c t = ap (λ o. stands_as None o) (one_want w Granted)
+granted_stands h w c t = ap (λ o. stands_as None o) (one_want h w Granted)
 
 pub bare_stands : (w c t want : ℕ) → standing (bare w c t) want ≡ NotComing
 unfolding standing
 bare_stands w c t want = refl
 
-connected_with : (w c link : ℕ) → find (is_with w) (conn_row w c link ∷ []) ≡ Some (conn_row w c link)
-connected_with w c link = rw (eq-eqb w w refl) refl
+connected_with : (h w c link : ℕ) → find (is_with w) (conn_row h w c link ∷ []) ≡ Some (conn_row h w c link)
+connected_with h w c link = rw (eq-eqb w w refl) refl
 
-pub connected_stands : (w c link t : ℕ) → standing (connected w c link t) w ≡ Served (conn_row w c link)
+pub connected_stands : (h w c link t : ℕ) → standing (connected h w c link t) w ≡ Served (conn_row h w c link)
 unfolding standing
-connected_stands w c link t = ap (λ o. stands_as o None) (connected_with w c link)
+connected_stands h w c link t = ap (λ o. stands_as o None) (connected_with h w c link)
 
 -- the tokens of the only want that has some
 with_token : (w : ℕ) → change w with_dial (ticket_of w ∷ []) ≡ with_dial (ticket_of w) ∷ []
@@ -288,25 +285,25 @@ pub grows_quiet : (a b c : Lent) (x : List Entry) → Grows a b x → Grows b c 
 grows_quiet a b c x p q = let P : List Entry → Type 0 = λ l. Grows a c l in subst P (append-nil x) (grows_then a b c x [] p q)
 
 -- a want in a pool without a row is granted
-pub was_granted : (old new : Lent) (t : Ticket) (now : ℕ) → IsVacant old → WantMade old new 0 now t
-    → IsGranted new t.want × Grows old new (made_want t.want now) × (is_full old.limits old.seen ≡ false)
-was_granted old new t now v m =
+pub was_granted : (old new : Lent) (t : Ticket) (h now : ℕ) → IsVacant old → WantMade old new h now t
+    → IsGranted new t.want × Grows old new (made_want h t.want now) × (is_full old.limits old.seen ≡ false)
+was_granted old new t h now v m =
     let st = v.stands in
-    let step_is = want_step_is old.limits v.want v.conn v.stamp now st.one in
-    let same = outcome_is old new (bare v.want v.conn v.stamp) [] m.others (call.Want 0 now) m.outcome _ st m.calls step_is in
+    let step_is = want_step_is old.limits h v.want v.conn v.stamp now st.one in
+    let same = outcome_is old new (bare v.want v.conn v.stamp) [] m.others (call.Want h now) m.outcome _ st m.calls step_is in
     let made : v.want ≡ t.want = let P : Reply → Type 0 = λ r. IsMade t.want r in subst P (ap (λ o. o.reply) same) m.made in
     let out : old.out ++ ticket_of t.want ∷ [] ≡ ticket_of t.want ∷ [] = ap (λ l. l ++ ticket_of t.want ∷ []) st.tokens in
-    let done = called old new (bare v.want v.conn v.stamp) [] (old.out ++ ticket_of t.want ∷ []) m.others (call.Want 0 now) m.outcome _ old.waits st m.calls step_is m.leaves in
-    let P : ℕ → Type 0 = λ n. Stands new (granted n v.conn v.stamp) (ticket_of t.want ∷ []) in
-    let Q : ℕ → Type 0 = λ n. Grows old new (made_want n now) in
-    let none = nobody_else old new (bare v.want v.conn v.stamp) [] m.others (entry_of old.number (call.Want 0 now) m.outcome.reply ∷ []) st m.calls.meets m.calls.seen in
+    let done = called old new (bare v.want v.conn v.stamp) [] (old.out ++ ticket_of t.want ∷ []) m.others (call.Want h now) m.outcome _ old.waits st m.calls step_is m.leaves in
+    let P : ℕ → Type 0 = λ n. Stands new (granted h n v.conn v.stamp) (ticket_of t.want ∷ []) in
+    let Q : ℕ → Type 0 = λ n. Grows old new (made_want h n now) in
+    let none = nobody_else old new (bare v.want v.conn v.stamp) [] m.others (entry_of old.number (call.Want h now) m.outcome.reply ∷ []) st m.calls.meets m.calls.seen in
     let room : is_full old.limits old.seen ≡ false =
     ap (λ l. is_full old.limits l) (sym (append-nil old.seen)) ∙ ap (λ l. is_full old.limits (old.seen ++ l)) (sym none) ∙ m.room in
-    (record { conn = v.conn; stamp = v.stamp; stands = subst P made (with_tokens new (granted v.want v.conn v.stamp) _ _ out done.stands) }, subst Q made done.grows, room)
+    (record { host = h; conn = v.conn; stamp = v.stamp; stands = subst P made (with_tokens new (granted h v.want v.conn v.stamp) _ _ out done.stands) }, subst Q made done.grows, room)
 
-pub not_expired : {C : Type 0} (link : C → LinkView) (old new : Lent) (now : ℕ) (conn : C) → IsVacant old → WantExpired link old new 0 now conn → ⊥
-not_expired link old new now conn v m =
-    let same = outcome_is old new (bare v.want v.conn v.stamp) [] m.others (call.Want 0 now) m.outcome _ v.stands m.calls (want_step_is old.limits v.want v.conn v.stamp now v.stands.one) in
+pub not_expired : {C : Type 0} (link : C → LinkView) (old new : Lent) (h now : ℕ) (conn : C) → IsVacant old → WantExpired link old new h now conn → ⊥
+not_expired link old new h now conn v m =
+    let same = outcome_is old new (bare v.want v.conn v.stamp) [] m.others (call.Want h now) m.outcome _ v.stands m.calls (want_step_is old.limits h v.want v.conn v.stamp now v.stands.one) in
     let P : Option ConnRow → Type 0 = λ g. IsOf link conn g in subst P (ap (λ o. o.gone) same) m.close
 
 pub was_full : (old new : Lent) → IsVacant old → WantFull old new → (is_full old.limits old.seen ≡ true) × IsVacant new × Grows old new []
@@ -322,12 +319,13 @@ was_full old new v m =
 pub went : (old new : Lent) (t : Ticket) (d : DialToken) → IsGranted old t.want → StartGo old new t d
     → IsDialing new t.want × Grows old new (entry_of 0 (call.Start t.want) reply.Go ∷ []) × (d.want ≡ t.want)
 went old new t d v m =
-    let done = called old new (granted t.want v.conn v.stamp) (ticket_of t.want ∷ []) (change t.want with_dial old.out) m.others (call.Start t.want) m.outcome _ old.waits v.stands m.calls
-    (start_step_is old.limits t.want v.conn v.stamp) m.leaves in (
+    let done = called old new (granted v.host t.want v.conn v.stamp) (ticket_of t.want ∷ []) (change t.want with_dial old.out) m.others (call.Start t.want) m.outcome _ old.waits v.stands m.calls
+    (start_step_is old.limits v.host t.want v.conn v.stamp) m.leaves in (
       record {
+        host = v.host;
         conn = v.conn;
         stamp = v.stamp;
-        stands = with_tokens new (dialing t.want v.conn v.stamp) _ _ (ap (λ l. change t.want with_dial l) v.stands.tokens ∙ with_token t.want) done.stands;
+        stands = with_tokens new (dialing v.host t.want v.conn v.stamp) _ _ (ap (λ l. change t.want with_dial l) v.stands.tokens ∙ with_token t.want) done.stands;
       },
       done.grows,
       m.want,
@@ -335,28 +333,29 @@ went old new t d v m =
 
 pub may_start : (old new : Lent) (t : Ticket) → IsGranted old t.want → StartNot old new t → ⊥
 may_start old new t v m =
-    let here = met_is old new (granted t.want v.conn v.stamp) (ticket_of t.want ∷ []) m.others v.stands m.looks in
+    let here = met_is old new (granted v.host t.want v.conn v.stamp) (ticket_of t.want ∷ []) m.others v.stands m.looks in
     let P : State → Type 0 = λ s. step old.limits s old.number (call.Start t.want) ≡ None in
-    let Q : ℕ → Type 0 = λ n. step old.limits (granted t.want v.conn v.stamp) n (call.Start t.want) ≡ None in
-    let both = sym (subst Q v.stands.number (subst P here m.stands)) ∙ start_step_is old.limits t.want v.conn v.stamp in
+    let Q : ℕ → Type 0 = λ n. step old.limits (granted v.host t.want v.conn v.stamp) n (call.Start t.want) ≡ None in
+    let both = sym (subst Q v.stands.number (subst P here m.stands)) ∙ start_step_is old.limits v.host t.want v.conn v.stamp in
     cc
 
 -- its dial gave a connection, which nobody else was waiting for
 pub record Kept (old new : Lent) (w number now : ℕ) : Type 0 where
+  pub host : ℕ
   pub conn : ℕ
   pub stamp : ℕ
-  pub stands : Stands new (connected w conn number stamp) (ticket_of w ∷ [])
+  pub stands : Stands new (connected host w conn number stamp) (ticket_of w ∷ [])
   pub grows : Grows old new (entry_of 0 (call.Dialed w number now) (reply.Kept conn) ∷ [])
 
 pub was_kept : {C : Type 0} (link : C → LinkView) (old new : Lent) (d : DialToken) (number now w : ℕ) (put : Put C) → d.want ≡ w → IsDialing old w
     → pool.DialedStep link old new d number now put → Kept old new w number now
 was_kept {C} link old new d number now w put e v m =
     let P : ℕ → Type 0 = λ n. Calls old new m.others (call.Dialed n number now) m.outcome in
-    let done = called old new (dialing w v.conn v.stamp) (with_dial (ticket_of w) ∷ []) (change d.want without_dial old.out) m.others (call.Dialed w number now) m.outcome _ old.waits v.stands
-    (subst P e m.calls) (dialed_step_is old.limits w v.conn v.stamp number now) m.leaves in
+    let done = called old new (dialing v.host w v.conn v.stamp) (with_dial (ticket_of w) ∷ []) (change d.want without_dial old.out) m.others (call.Dialed w number now) m.outcome _ old.waits v.stands
+    (subst P e m.calls) (dialed_step_is old.limits v.host w v.conn v.stamp number now) m.leaves in
     let out : change d.want without_dial old.out ≡ ticket_of w ∷ [] =
     ap (λ n. change n without_dial old.out) e ∙ ap (λ l. change w without_dial l) v.stands.tokens ∙ without_token w in
-    record { conn = v.conn; stamp = v.stamp; stands = with_tokens new (connected w v.conn number v.stamp) _ _ out done.stands; grows = done.grows }
+    record { host = v.host; conn = v.conn; stamp = v.stamp; stands = with_tokens new (connected v.host w v.conn number v.stamp) _ _ out done.stands; grows = done.grows }
 
 -- its dial failed
 pub record Ended (old new : Lent) (w : ℕ) : Type 0 where
@@ -368,8 +367,8 @@ pub record Ended (old new : Lent) (w : ℕ) : Type 0 where
 pub has_ended : (old new : Lent) (d : DialToken) (w : ℕ) → d.want ≡ w → IsDialing old w → DialFailedStep old new d → Ended old new w
 has_ended old new d w e v m =
     let P : ℕ → Type 0 = λ n. Calls old new m.others (call.DialFailed n) m.outcome in
-    let done = called old new (dialing w v.conn v.stamp) (with_dial (ticket_of w) ∷ []) (change d.want without_dial old.out) m.others (call.DialFailed w) m.outcome _ old.waits v.stands
-    (subst P e m.calls) (failed_step_is old.limits w v.conn v.stamp) m.leaves in
+    let done = called old new (dialing v.host w v.conn v.stamp) (with_dial (ticket_of w) ∷ []) (change d.want without_dial old.out) m.others (call.DialFailed w) m.outcome _ old.waits v.stands
+    (subst P e m.calls) (failed_step_is old.limits v.host w v.conn v.stamp) m.leaves in
     let out : change d.want without_dial old.out ≡ ticket_of w ∷ [] =
     ap (λ n. change n without_dial old.out) e ∙ ap (λ l. change w without_dial l) v.stands.tokens ∙ without_token w in
     record { conn = v.conn; stamp = v.stamp; stands = with_tokens new (bare (w + 1) v.conn v.stamp) _ _ out done.stands; grows = done.grows }
@@ -378,24 +377,24 @@ served_same : (a b : ConnRow) → Served a ≡ Served b → a ≡ b
 served_same a b e = cc
 
 -- a want with a connection takes it
-pub was_taken : {C : Type 0} (link : C → LinkView) (old new : Lent) (t : Ticket) (l : Lease C) (conn number stamp : ℕ)
-    → Stands old (connected t.want conn number stamp) (ticket_of t.want ∷ []) → AskTaken link old new t l
+pub was_taken : {C : Type 0} (link : C → LinkView) (old new : Lent) (t : Ticket) (l : Lease C) (host conn number stamp : ℕ)
+    → Stands old (connected host t.want conn number stamp) (ticket_of t.want ∷ []) → AskTaken link old new t l
     → (l.want ≡ t.want) × (l.no ≡ conn) × (l.link ≡ number) × IsLeased link new l × Grows old new []
-was_taken {C} link old new t l conn number stamp st m =
-    let row = sym (stands_so old new _ _ m.others t.want _ st m.looks m.stands) ∙ connected_stands t.want conn number stamp in
-    let rows = served_same (pool.row_of old.number l) (conn_row t.want conn number) row in
+was_taken {C} link old new t l host conn number stamp st m =
+    let row = sym (stands_so old new _ _ m.others t.want _ st m.looks m.stands) ∙ connected_stands host t.want conn number stamp in
+    let rows = served_same (pool.row_of old.number l) (conn_row host t.want conn number) row in
     let no : l.no ≡ conn = ap (λ (r : ConnRow). r.conn) rows in
     let linked : l.link ≡ number = ap (λ (r : ConnRow). r.link) rows in
-    let done = looked old new (connected t.want conn number stamp) (ticket_of t.want ∷ []) (change t.want leased old.out) m.others old.waits st m.looks m.leaves in
+    let done = looked old new (connected host t.want conn number stamp) (ticket_of t.want ∷ []) (change t.want leased old.out) m.others old.waits st m.looks m.leaves in
     let out : change t.want leased old.out ≡ lent_to t.want ∷ [] = ap (λ x. change t.want leased x) st.tokens ∙ leased_token t.want in
-    let here : Stands new (connected t.want conn number stamp) (lent_to t.want ∷ []) = with_tokens new _ _ _ out done.stands in
-    let P : ℕ → Type 0 = λ n. Stands new (connected n conn number stamp) (lent_to n ∷ []) in
-    let Q : ℕ → Type 0 = λ n. Stands new (connected l.want n number stamp) (lent_to l.want ∷ []) in
-    let R : ℕ → Type 0 = λ n. Stands new (connected l.want l.no n stamp) (lent_to l.want ∷ []) in (
+    let here : Stands new (connected host t.want conn number stamp) (lent_to t.want ∷ []) = with_tokens new _ _ _ out done.stands in
+    let P : ℕ → Type 0 = λ n. Stands new (connected host n conn number stamp) (lent_to n ∷ []) in
+    let Q : ℕ → Type 0 = λ n. Stands new (connected host l.want n number stamp) (lent_to l.want ∷ []) in
+    let R : ℕ → Type 0 = λ n. Stands new (connected host l.want l.no n stamp) (lent_to l.want ∷ []) in (
       m.want,
       no,
       linked,
-      record { connected = record { stamp = stamp; stands = subst R (sym linked) (subst Q (sym no) (subst P (sym m.want) here)) }; lease = m.lease },
+      record { connected = record { host = host; stamp = stamp; stands = subst R (sym linked) (subst Q (sym no) (subst P (sym m.want) here)) }; lease = m.lease },
       done.grows,
     )
 
@@ -416,8 +415,8 @@ stands_else old new s out others want answer other st c e f = sym e ∙ stands_s
 pub was_dropped : {C : Type 0} (link : C → LinkView) (old new : Lent) (l : Lease C) → IsConnected old l.want l.no l.link → DropStep old new l.no l.want
     → IsVacant new × Grows old new (made_drop l.no)
 was_dropped link old new l v m =
-    let done = called old new (connected l.want l.no l.link v.stamp) (lent_to l.want ∷ []) (change l.want without_lease old.out) m.others (call.Drop l.no) m.outcome _ old.waits v.stands m.calls
-    (drop_step_is old.limits l.want l.no l.link v.stamp) m.leaves in
+    let done = called old new (connected v.host l.want l.no l.link v.stamp) (lent_to l.want ∷ []) (change l.want without_lease old.out) m.others (call.Drop l.no) m.outcome _ old.waits v.stands m.calls
+    (drop_step_is old.limits v.host l.want l.no l.link v.stamp) m.leaves in
     let out : change l.want without_lease old.out ≡ [] = ap (λ x. change l.want without_lease x) v.stands.tokens ∙ ended_token l.want in
     (record { want = l.want + 1; conn = l.no + 1; stamp = v.stamp; stands = with_tokens new _ _ _ out done.stands }, done.grows)
 
@@ -426,8 +425,9 @@ opened : (limits : Limits) → after limits [] ≡ bare 0 0 0
 unfolding after
 opened limits = refl
 
-pub vacant_opened : (lent : Lent) → lent.seen ≡ [] → lent.out ≡ [] → lent.number ≡ 0 → lent.limits ≡ default_limits → IsVacant lent
-vacant_opened lent seen out number limits = record {
+pub vacant_opened : (lent : Lent) (limits : Limits) → lent.seen ≡ [] → lent.out ≡ [] → lent.number ≡ 0 → lent.limits ≡ limits
+    → limits.passes ≡ 1 → 0 < limits.per_pass → IsVacant lent
+vacant_opened lent limits seen out number same alone one = record {
   want = 0;
   conn = 0;
   stamp = 0;
@@ -435,8 +435,7 @@ vacant_opened lent seen out number limits = record {
     state = ap (λ h. after lent.limits h) seen ∙ opened lent.limits;
     tokens = out;
     number = number;
-    alone = ap (λ l. l.passes) limits;
-    one = rw limits (omega arith);
-    hosts = rw limits (omega arith);
+    alone = ap (λ l. l.passes) same ∙ alone;
+    one = rw same one;
   };
 }

@@ -17,6 +17,7 @@ use Rattle.gw_wire.proofs.StretchLemmas.{Logs-none, Told-map, Told-acts, Told-th
 use Rattle.gw_pool.specs.declared.entry.Entry.{Entry}
 use Rattle.gw_pool.specs.declared.limits.Limits.{Limits}
 use Rattle.gw_pool.specs.Lent.{Lent}
+use Rattle.gw_routes.specs.declared.table.Table.{Table}
 use Rattle.gw_top.specs.Leased.{IsVacant, Grows}
 use Rattle.gw_top.specs.Run.{Visit, Visited, Visits, Follow, Serving, Worked, made_by, began_by}
 use Rattle.gw_top.specs.Thin.{Turn, ThinExchange, FitsAt, ServedStep, made_in, began_in, failed_in, waits_in}
@@ -30,15 +31,15 @@ given_first {W} world wire wires first one given =
     All-head (λ w. IsGiven world (wire w)) first [] (subst P one given)
 
 -- one client more
-visits_push : (members : List Addr) (backend : Addr) (visits : List Visit) (v : Visit) (l : List Act)
-    → Then (Visits members backend visits) (Visited members backend v) l → Visits members backend (visits ++ v ∷ []) l
-visits_push members backend [] v l t = (t.1, [], t.2 ∙ ap (λ x. x ++ t.1) t.3 ∙ sym (append-nil t.1), t.4, refl)
-visits_push members backend (x ∷ xs) v l t = (
+visits_push : (groups : Addr → List Addr) (table : Table) (visits : List Visit) (v : Visit) (l : List Act)
+    → Then (Visits groups table visits) (Visited groups table v) l → Visits groups table (visits ++ v ∷ []) l
+visits_push groups table [] v l t = (t.1, [], t.2 ∙ ap (λ x. x ++ t.1) t.3 ∙ sym (append-nil t.1), t.4, refl)
+visits_push groups table (x ∷ xs) v l t = (
   t.3.0,
   t.3.1 ++ t.1,
   t.2 ∙ ap (λ y. y ++ t.1) t.3.2 ∙ append_assoc t.3.0 t.3.1 t.1,
   t.3.3,
-  visits_push members backend xs v (t.3.1 ++ t.1) (t.3.1, t.1, refl, t.3.4, t.4),
+  visits_push groups table xs v (t.3.1 ++ t.1) (t.3.1, t.1, refl, t.3.4, t.4),
 )
 
 made_push : (visits : List Visit) (v : Visit) → made_by (visits ++ v ∷ []) ≡ made_by visits ++ made_in v.turn
@@ -57,8 +58,8 @@ sum_push f visits v = sum_by-append f visits (v ∷ []) ∙ ap (λ n. sum_by f v
 began_push : (visits : List Visit) (v : Visit) (b : Bool) → b ≡ began_in v.turn → began_by (visits ++ v ∷ []) ≡ began_by visits + cond b 1 0
 began_push visits v b e = sum_push (λ x. cond (began_in x.turn) 1 0) visits v ∙ ap (λ c. began_by visits + cond c 1 0) (sym e)
 
-pub serving_begins : (wire : WireView) (lent : Lent) (backend : Addr) → wire.aged ≡ false → IsVacant lent → Serving wire wire lent lent backend 0 []
-serving_begins wire lent backend fresh v = record {
+pub serving_begins : (wire : WireView) (lent : Lent) (table : Table) → wire.aged ≡ false → IsVacant lent → Serving wire wire lent lent table 0 []
+serving_begins wire lent table fresh v = record {
   later = later_same wire;
   fresh = fresh;
   vacant = v;
@@ -71,9 +72,9 @@ serving_begins wire lent backend fresh v = record {
 }
 
 -- nobody came
-pub serving_on : {C : Type 0} (link : C → LinkView) (old mid new : WireView) (a b : Lent) (backend : Addr) (entered : ℕ) (visits : List Visit) → Serving old mid a b backend entered visits
-    → AcceptStep link mid new accept.Tick → Serving old new a b backend entered visits
-serving_on link old mid new a b backend entered visits s t = record {
+pub serving_on : {C : Type 0} (link : C → LinkView) (old mid new : WireView) (a b : Lent) (table : Table) (entered : ℕ) (visits : List Visit) → Serving old mid a b table entered visits
+    → AcceptStep link mid new accept.Tick → Serving old new a b table entered visits
+serving_on link old mid new a b table entered visits s t = record {
   later = later_then old mid new s.later t.later;
   fresh = t.aged ∙ s.fresh;
   vacant = s.vacant;
@@ -82,26 +83,26 @@ serving_on link old mid new a b backend entered visits s t = record {
   count = s.count;
   faults = let f = s.faults in let l = t.later.dial_faults in omega arith;
   waited = let f = s.waited in let l = t.later.ticks in omega arith;
-  log = Told-before_quiet old.log mid.log new.log (Visits (old.groups backend) backend visits) s.log t.log;
+  log = Told-before_quiet old.log mid.log new.log (Visits old.groups table visits) s.log t.log;
 }
 
 -- a client came and was served
 pub visit_of : ℕ → List ℕ → Turn → Visit
 visit_of client peer turn = record { client = client; peer = peer; turn = turn }
 
-pub serving_more : {C : Type 0} (link : C → LinkView) (old mid met new : WireView) (a b c : Lent) (backend : Addr) (entered now : ℕ) (visits : List Visit) (client : C) (peer : List ℕ) (began : Bool)
-    → Serving old mid a b backend entered visits → AcceptStep link mid met (accept.Conn client peer) → (s : ServedStep met new b c (link client).number backend began)
+pub serving_more : {C : Type 0} (link : C → LinkView) (old mid met new : WireView) (a b c : Lent) (table : Table) (entered now : ℕ) (visits : List Visit) (client : C) (peer : List ℕ) (began : Bool)
+    → Serving old mid a b table entered visits → AcceptStep link mid met (accept.Conn client peer) → (s : ServedStep met new b c (link client).number table began)
     → now ≡ min (entered + cond began 1 0) (2 ^ 64 - 1)
-    → Serving old new a c backend now (visits ++ visit_of (link client).number peer s.turn ∷ [])
+    → Serving old new a c table now (visits ++ visit_of (link client).number peer s.turn ∷ [])
 unfolding visit_of
-serving_more link old mid met new a b c backend entered now visits client peer began w t s n =
+serving_more link old mid met new a b c table entered now visits client peer began w t s n =
     let k = (link client).number in
     let v = visit_of k peer s.turn in
-    let X = Visits (old.groups backend) backend visits in
+    let X = Visits old.groups table visits in
     let Y = Acts (Accepted k peer ∷ []) in
-    let Z = ThinExchange k (old.groups backend) backend s.turn in
+    let Z = ThinExchange k old.groups table s.turn in
     let groups : met.groups ≡ old.groups = t.later.groups ∙ w.later.groups in
-    let P : (Addr → List Addr) → Type 0 = λ gs. Told met.log new.log (ThinExchange k (gs backend) backend s.turn) in
+    let P : (Addr → List Addr) → Type 0 = λ gs. Told met.log new.log (ThinExchange k gs table s.turn) in
     let Q : List Entry → Type 0 = λ l. FitsAt b.limits l s.turn in
     let R : Limits → Type 0 = λ l. FitsAt l (a.seen ++ made_by visits) s.turn in
     let T : List Entry → Type 0 = λ l. Grows a c l in
@@ -116,13 +117,13 @@ serving_more link old mid met new a b c backend entered now visits client peer b
       count = let f = w.count in let g = began_push visits v began s.began_is in omega arith;
       faults = let f = w.faults in let l = t.later.dial_faults in let m = s.faults in let g = sum_push (λ x. failed_in x.turn) visits v in omega arith;
       waited = let f = w.waited in let l = t.later.ticks in let m = s.waited in let g = sum_push (λ x. waits_in x.turn) visits v in omega arith;
-      log = Told-map old.log new.log (Then X (Then Y Z)) (Visits (old.groups backend) backend (visits ++ v ∷ [])) (λ l p. visits_push (old.groups backend) backend visits v l p) told;
+      log = Told-map old.log new.log (Then X (Then Y Z)) (Visits old.groups table (visits ++ v ∷ [])) (λ l p. visits_push old.groups table visits v l p) told;
     }
 
 -- the last accept
-pub worked_till_end : {C : Type 0} (link : C → LinkView) (old mid new : WireView) (a b : Lent) (backend : Addr) (entered : ℕ) (visits : List Visit) (failed : Bool) → failed ≡ false
-    → Serving old mid a b backend entered visits → AcceptStep link mid new accept.Ended → Worked old new a b backend entered failed
-worked_till_end link old mid new a b backend entered visits failed e s t = record {
+pub worked_till_end : {C : Type 0} (link : C → LinkView) (old mid new : WireView) (a b : Lent) (table : Table) (entered : ℕ) (visits : List Visit) (failed : Bool) → failed ≡ false
+    → Serving old mid a b table entered visits → AcceptStep link mid new accept.Ended → Worked old new a b table entered failed
+worked_till_end link old mid new a b table entered visits failed e s t = record {
   visits = visits;
   later = later_then old mid new s.later t.later;
   fresh = t.aged ∙ s.fresh;
@@ -132,12 +133,12 @@ worked_till_end link old mid new a b backend entered visits failed e s t = recor
   count = s.count;
   faults = let f = s.faults in let l = t.later.dial_faults in omega arith;
   waited = let f = s.waited in let l = t.later.ticks in omega arith;
-  log = rw e (Told-then old.log mid.log new.log (Visits (old.groups backend) backend visits) (Acts (Ended ∷ [])) s.log (Told-acts mid.log new.log (Ended ∷ []) t.log));
+  log = rw e (Told-then old.log mid.log new.log (Visits old.groups table visits) (Acts (Ended ∷ [])) s.log (Told-acts mid.log new.log (Ended ∷ []) t.log));
 }
 
-pub worked_till_failure : {C : Type 0} (link : C → LinkView) (old mid new : WireView) (a b : Lent) (backend : Addr) (entered : ℕ) (visits : List Visit)
-    → Serving old mid a b backend entered visits → AcceptStep link mid new accept.Failed → Worked old new a b backend entered true
-worked_till_failure link old mid new a b backend entered visits s t = record {
+pub worked_till_failure : {C : Type 0} (link : C → LinkView) (old mid new : WireView) (a b : Lent) (table : Table) (entered : ℕ) (visits : List Visit)
+    → Serving old mid a b table entered visits → AcceptStep link mid new accept.Failed → Worked old new a b table entered true
+worked_till_failure link old mid new a b table entered visits s t = record {
   visits = visits;
   later = later_then old mid new s.later t.later;
   fresh = t.aged ∙ s.fresh;
@@ -147,7 +148,7 @@ worked_till_failure link old mid new a b backend entered visits s t = record {
   count = s.count;
   faults = let f = s.faults in let l = t.later.dial_faults in omega arith;
   waited = let f = s.waited in let l = t.later.ticks in omega arith;
-  log = Told-then old.log mid.log new.log (Visits (old.groups backend) backend visits) (Acts (AcceptFailed ∷ [])) s.log (Told-acts mid.log new.log (AcceptFailed ∷ []) t.log);
+  log = Told-then old.log mid.log new.log (Visits old.groups table visits) (Acts (AcceptFailed ∷ [])) s.log (Told-acts mid.log new.log (AcceptFailed ∷ []) t.log);
 }
 
 -- a mark as a number

@@ -1,8 +1,7 @@
 -- The top call: its lines, its refusals, and the run that it reports, over plain variables.
-use Rattle.std.proofs.Common.{◌≡◌, ℕ, inl, inr, true, false, List, [], ◌∷◌, ◌++◌, map, Option, Some, None, refl, ap, sym, ◌∙◌, subst, arith}
+use Rattle.std.proofs.Common.{◌≡◌, ℕ, inl, inr, true, false, List, [], ◌∷◌, ◌++◌, map, Option, Some, None, Result, Ok, Err, refl, ap, sym, ◌∙◌, subst, arith}
 use Rattle.std.specs.Prelude.{if◌then◌else◌, String}
 use Rattle.std.specs.declared.alloc.Global.{Global}
-use Rattle.gw_wire.specs.declared.traits.Loaded.TheVariants as loaded
 use Rattle.gw_wire.specs.declared.traits.Printed.{Printed}
 use Rattle.gw_wire.specs.declared.traits.Printed.TheVariants as printing
 use Rattle.gw_wire.specs.declared.values.Act.{Act}
@@ -12,20 +11,24 @@ use Rattle.gw_wire.specs.Acts.{Logs}
 use Rattle.gw_wire.specs.Causes.{Rose}
 use Rattle.gw_wire.specs.Stretch.{Told, Then, Acts}
 use Rattle.gw_wire.specs.Wire.{WireView, Later, HasNoActs}
-use Rattle.gw_wire.specs.World.{WorldView, WorldLater, LoadStep, PrintStep, IsGiven, ListensNow, ListensAt, Holds}
-use Rattle.gw_wire.proofs.StretchLemmas.{Logs-none, Logs-then, Told-then}
+use Rattle.gw_wire.specs.World.{WorldView, WorldLater, PrintStep, IsGiven, ListensNow, ListensAt}
+use Rattle.gw_wire.proofs.StretchLemmas.{Logs-none, Logs-then, Told-map, Told-then}
 use Rattle.gw_pool.specs.declared.entry.Entry.{Entry}
 use Rattle.gw_pool.specs.declared.limits.Limits.{Limits}
 use Rattle.gw_pool.specs.History.{IsLegal, AreBelow}
 use Rattle.gw_pool.specs.Idle.{idle_links}
 use Rattle.gw_pool.specs.Lent.{Lent}
-use Rattle.gw_top.specs.declared.route_file.Table.{Table}
+use Rattle.gw_routes.specs.declared.table.Table.{Table}
 use Rattle.gw_top.specs.declared.run.Report.{Report}
 use Rattle.gw_top.specs.declared.worker.Worker.{Worker}
 use Rattle.gw_top.specs.Command.{IsServe, name_of}
-use Rattle.gw_top.specs.RouteFile.{IsFileOf, IsTable}
-use Rattle.gw_top.specs.Run.{Visits, Worked, Run, LogIs, Follow, made_by, last_act}
-use Rattle.gw_top.specs.Status.{Prints, Refuses, RefusesOr7, Finished, Serves, Ends, Ran, usage_line, unreadable_line, refused_line, memory_line, accept_line, unheard_line}
+use Rattle.gw_top.specs.Lines.{unheard_line, memory_line, accept_line}
+use Rattle.gw_top.specs.Load.{Prints, SaysTable, NoTable, Loads}
+use Rattle.gw_top.specs.Exchange.{Exchanges, SaysAnswer, reply_text}
+use Rattle.gw_top.specs.Routing.{IsRouted}
+use Rattle.gw_top.specs.Run.{Visit, Visits, Worked, Run, LogIs, Follow, made_by, last_act}
+use Rattle.gw_top.specs.Thin.{Turn, Unheard, Refused, Answered, Passed, Undecided, HearsHead, ThinExchange}
+use Rattle.gw_top.specs.Status.{IsEmpty, Refuses, RefusesOr7, Finished, Serves, Ends, Ran}
 
 pub world_then : (a b c : WorldView) → WorldLater a b → WorldLater b c → WorldLater a c
 world_then a b c p q = record {
@@ -81,40 +84,59 @@ map_map f g (x ∷ xs) = ap (λ l. f (g x) ∷ l) (map_map f g xs)
 pub closes_of : {C : Type 0} (number : C → ℕ) (idle : List C) (links : List ℕ) → map number idle ≡ links → map (λ c. Closed (number c)) idle ≡ map Closed links
 closes_of number idle links e = map_map Closed number idle ∙ ap (λ l. map Closed l) e
 
-listened_still : (old new : Option (Option ListensAt)) (listen : Addr) (workers : ℕ) → new ≡ old → workers ≡ 1 → ListensNow old listen workers → ListensNow new listen 1
-listened_still old new listen workers e w h =
-    let P : ℕ → Type 0 = λ n. ListensNow old listen n in
-    let Q : Option (Option ListensAt) → Type 0 = λ l. ListensNow l listen 1 in subst Q (sym e) (subst P w h)
+-- groups that are the same for each address
+thin_along : (groups others : Addr → List Addr) → ((address : Addr) → groups address ≡ others address) → (client : ℕ) (table : Table) (turn : Turn) (l : List Act)
+    → ThinExchange client groups table turn l → ThinExchange client others table turn l
+thin_along groups others same client table (Unheard heard) l t = t
+thin_along groups others same client table (Refused error sent) l t = t
+thin_along groups others same client table (Answered asked own sent) l t = t
+thin_along groups others same client table (Passed asked trip sent) l t =
+    let P : List Addr → Type 0 = λ members. IsRouted table asked.text asked.head trip.host trip.backend
+    × Then (HearsHead client asked)
+    (Then (Exchanges members trip.host trip.backend asked.text trip.link trip.answer)
+    (Then (SaysAnswer client (reply_text trip.answer) sent) (Acts (Closed client ∷ [])))) l in subst P (same trip.backend) t
+thin_along groups others same client table (Undecided asked) l t = t
+
+visits_along : (groups others : Addr → List Addr) → ((address : Addr) → groups address ≡ others address) → (table : Table) (visits : List Visit) (l : List Act)
+    → Visits groups table visits l → Visits others table visits l
+visits_along groups others same table [] l t = t
+visits_along groups others same table (v ∷ later) l t = (
+  t.0,
+  t.1,
+  t.2,
+  (t.3.0, t.3.1, t.3.2, t.3.3, thin_along groups others same v.client table v.turn t.3.1 t.3.4),
+  visits_along groups others same table later t.1 t.4,
+)
 
 -- the run behind a report
-pub served : {W : Type 0} (wire : W → WireView) (old mid new : WorldView) (table : Table) (listen backend : Addr) (first ended : WireView) (before after : Lent) (journal : List Entry) (closes : List Act)
+pub served : {W : Type 0} (wire : W → WireView) (old mid new : WorldView) (table : Table) (first ended : WireView) (before after : Lent) (journal : List Entry) (closes : List Act)
     (worker : Worker W) (report : Report W)
-    → IsTable listen backend table → before.limits ≡ table.limits → before.seen ≡ []
-    → WorldLater old mid → Logs old.printed mid.printed [] → ListensNow mid.listened listen table.workers → IsGiven old first
-    → Worked first ended before after backend worker.entered worker.accept_failed
+    → before.limits ≡ table.limits → before.seen ≡ []
+    → WorldLater old mid → Logs old.printed mid.printed [] → ListensNow mid.listened table.listen table.workers → IsGiven old first
+    → Worked first ended before after table worker.entered worker.accept_failed
     → (worker.accept_failed ≡ true → Rose first.accept_faults ended.accept_faults) → worker.number ≡ 0
     → journal ≡ after.seen → IsLegal after.limits journal → AreBelow after.limits.passes journal
     → Later ended (wire worker.wire) → Told ended.log (wire worker.wire).log (Acts closes) → closes ≡ map Closed (idle_links after.limits after.seen)
-    → Finished mid new table journal worker report → Serves wire old new listen backend report
-served wire old mid new table listen backend first ended before after journal closes worker report t lim none later quiet heard given w failed number j legal callers behind told links f =
+    → Finished mid new table journal worker report → Serves wire old new table report
+served wire old mid new table first ended before after journal closes worker report lim none later quiet heard given w failed number j legal callers behind told links f =
     let last = wire worker.wire in
     let limits : after.limits ≡ table.limits = w.grows.limits ∙ lim in
     let all : journal ≡ made_by w.visits = j ∙ w.grows.seen ∙ ap (λ l. l ++ made_by w.visits) none in
-    let V = Visits (old.groups backend) backend w.visits in
+    let V = Visits old.groups table w.visits in
     let L = Acts (last_act worker.accept_failed ∷ []) in
     let idle = Acts (map Closed (idle_links table.limits journal)) in
-    let P : List Addr → Type 0 = λ members. Told first.log ended.log (Then (Visits members backend w.visits) L) in
+    let worked = Told-map first.log ended.log (Then (Visits first.groups table w.visits) L) (Then V L)
+    (λ l p. (p.0, p.1, p.2, visits_along first.groups old.groups given.groups table w.visits p.0 p.3, p.4)) w.log in
     let Q : List Act → Type 0 = λ l. Told ended.log last.log (Acts l) in
     let same : closes ≡ map Closed (idle_links table.limits journal) =
     links ∙ ap (λ l. map Closed (idle_links l after.seen)) limits ∙ ap (λ l. map Closed (idle_links table.limits l)) (sym j) in
     let R : Limits → Type 0 = λ l. Follow l before.seen w.visits in
     let S : List Entry → Type 0 = λ l. Follow table.limits l w.visits in
+    let T : Option (Option ListensAt) → Type 0 = λ l. ListensNow l table.listen table.workers in
     record {
       later = world_then old mid new later f.later;
-      table = table;
       table_is = f.table_is;
-      of_file = t;
-      listened = listened_still mid.listened new.listened listen table.workers f.listened t.workers heard;
+      listened = subst T (sym f.listened) heard;
       worker = worker;
       only = f.only;
       rightly = λ e. (let x = failed e in let y = behind.accept_faults in let z = given.fresh.accept_faults in omega arith);
@@ -130,7 +152,7 @@ served wire old mid new table listen backend first ended before after journal cl
         entered = w.count;
         faults = let x = w.faults in let y = behind.dial_faults in let z = given.fresh.dial_faults in omega arith;
         waited = let x = w.waited in let y = behind.ticks in let z = given.fresh.ticks in omega arith;
-        log = rw f.journal_is (log_is first.log last.log (Then (Then V L) idle) given.fresh.log (Told-then first.log ended.log last.log (Then V L) idle (subst P (given.groups backend) w.log) (subst Q same told)));
+        log = rw f.journal_is (log_is first.log last.log (Then (Then V L) idle) given.fresh.log (Told-then first.log ended.log last.log (Then V L) idle worked (subst Q same told)));
       };
     }
 
@@ -161,22 +183,20 @@ ended_badly old new table journal worker report result e p s t j w = record {
 }
 
 -- it could not be listened on the address
-pub unheard_ends : {W : Type 0} (wire : W → WireView) (old mid new : WorldView) (listen backend : Addr) (report : Report W) → WorldLater old mid → Logs old.printed mid.printed []
-    → Rose old.listen_faults mid.listen_faults → RefusesOr7 mid new 6 (unheard_line listen) report → Ends wire old new listen backend report
-unheard_ends wire old mid new listen backend report l p r (inl x) =
-    inr (inl (refuses_behind old mid new 6 (unheard_line listen) report l p x, (let m = x.later.listen_faults in omega arith)))
-unheard_ends wire old mid new listen backend report l p r (inr x) = inr (inr (refuses_behind old mid new 7 memory_line report l p x))
+pub unheard_ends : {W : Type 0} (wire : W → WireView) (old mid new : WorldView) (table : Table) (report : Report W) → WorldLater old mid → Logs old.printed mid.printed []
+    → Rose old.listen_faults mid.listen_faults → RefusesOr7 mid new 6 (unheard_line table.listen) report → Ends wire old new table report
+unheard_ends wire old mid new table report l p r (inl x) =
+    inr (inl (refuses_behind old mid new 6 (unheard_line table.listen) report l p x, (let m = x.later.listen_faults in omega arith)))
+unheard_ends wire old mid new table report l p r (inr x) = inr (inr (refuses_behind old mid new 7 memory_line report l p x))
 
 -- the same behind a call that printed nothing
-serves_behind : {W : Type 0} (wire : W → WireView) (old mid new : WorldView) (listen backend : Addr) (report : Report W) → WorldLater old mid → Logs old.printed mid.printed []
-    → Serves wire mid new listen backend report → Serves wire old new listen backend report
-serves_behind wire old mid new listen backend report l p s =
-    let P : (Addr → List Addr) → Type 0 = λ groups. Run wire s.table.limits (groups backend) backend report.journal.items s.worker in
+serves_behind : {W : Type 0} (wire : W → WireView) (old mid new : WorldView) (table : Table) (report : Report W) → WorldLater old mid → Logs old.printed mid.printed []
+    → Serves wire mid new table report → Serves wire old new table report
+serves_behind wire old mid new table report l p s =
+    let P : (Addr → List Addr) → Type 0 = λ groups. Run wire groups table report.journal.items s.worker in
     record {
       later = world_then old mid new l s.later;
-      table = s.table;
       table_is = s.table_is;
-      of_file = s.of_file;
       listened = s.listened;
       worker = s.worker;
       only = s.only;
@@ -186,40 +206,28 @@ serves_behind wire old mid new listen backend report l p s =
       run = subst P l.groups s.run;
     }
 
-ends_behind : {W : Type 0} (wire : W → WireView) (old mid new : WorldView) (listen backend : Addr) (report : Report W) → WorldLater old mid → Logs old.printed mid.printed []
-    → Ends wire mid new listen backend report → Ends wire old new listen backend report
-ends_behind wire old mid new listen backend report l p (inl s) = inl (serves_behind wire old mid new listen backend report l p s)
-ends_behind wire old mid new listen backend report l p (inr (inl r)) =
-    inr (inl (refuses_behind old mid new 6 (unheard_line listen) report l p r.0, (let a = l.listen_faults in let b = r.1 in omega arith)))
-ends_behind wire old mid new listen backend report l p (inr (inr r)) = inr (inr (refuses_behind old mid new 7 memory_line report l p r))
+ends_behind : {W : Type 0} (wire : W → WireView) (old mid new : WorldView) (table : Table) (report : Report W) → WorldLater old mid → Logs old.printed mid.printed []
+    → Ends wire mid new table report → Ends wire old new table report
+ends_behind wire old mid new table report l p (inl s) = inl (serves_behind wire old mid new table report l p s)
+ends_behind wire old mid new table report l p (inr (inl r)) =
+    inr (inl (refuses_behind old mid new 6 (unheard_line table.listen) report l p r.0, (let a = l.listen_faults in let b = r.1 in omega arith)))
+ends_behind wire old mid new table report l p (inr (inr r)) = inr (inr (refuses_behind old mid new 7 memory_line report l p r))
 
 -- how the top call ends
-pub ran_usage : {W : Type 0} (wire : W → WireView) (old new : WorldView) (words : List (String Global)) (report : Report W) → (IsServe words → ⊥)
-    → Refuses old new 2 usage_line report → Ran wire old new words report
-ran_usage wire old new words report n r = inl (n, r)
+pub ran_stopped : {W : Type 0} (wire : W → WireView) (old new : WorldView) (words : List (String Global)) (name : List ℕ) (status : ℕ) (report : Report W) → IsServe words → name ≡ name_of words
+    → Loads old new name (Err status) → report.status ≡ status → IsEmpty report → Ran wire old new words report
+ran_stopped wire old new words name status report s n l same empty =
+    let P : List ℕ → Type 0 = λ k. NoTable old new k status in
+    let Q : ℕ → Type 0 = λ k. NoTable old new (name_of words) k in
+    inr (s, inl (record { cause = subst Q (sym same) (subst P n l); empty = empty }))
 
-pub ran_unreadable : {W : Type 0} (wire : W → WireView) (old mid new : WorldView) (words : List (String Global)) (name : List ℕ) (report : Report W) → IsServe words → name ≡ name_of words
-    → LoadStep old mid name loaded.Failed → Refuses mid new 3 (unreadable_line name) report → Ran wire old new words report
-ran_unreadable wire old mid new words name report s n t r =
-    let P : List ℕ → Type 0 = λ l. Refuses old new 3 (unreadable_line l) report in
-    inr (s, inl (subst P n (refuses_behind old mid new 3 (unreadable_line name) report t.later t.printed r), (let a = t.cause in let b = r.later.file_faults in omega arith)))
+pub ran_on : {W : Type 0} (wire : W → WireView) (old mid new : WorldView) (words : List (String Global)) (name : List ℕ) (table served : Table) (report : Report W)
+    → IsServe words → name ≡ name_of words → Loads old mid name (Ok table) → served ≡ table → Ends wire mid new served report → Ran wire old new words report
+ran_on wire old mid new words name table served report s n l same e =
+    let P : List ℕ → Type 0 = λ k. SaysTable old k table in
+    let Q : Table → Type 0 = λ t. Ends wire mid new t report in
+    inr (s, inr (table, subst P n l.2, ends_behind wire old mid new table report l.0 l.1 (subst Q same e)))
 
-pub ran_refused : {W : Type 0} (wire : W → WireView) (old mid new : WorldView) (words : List (String Global)) (name bytes : List ℕ) (report : Report W) → IsServe words → name ≡ name_of words
-    → WorldLater old mid → Logs old.printed mid.printed [] → Holds old.files name bytes → ((listen backend : Addr) → IsFileOf listen backend bytes → ⊥)
-    → Refuses mid new 4 refused_line report → Ran wire old new words report
-ran_refused wire old mid new words name bytes report s n l p h none r =
-    let P : List ℕ → Type 0 = λ k. Holds old.files k bytes in
-    inr (s, inr (inl (bytes, subst P n h, none, refuses_behind old mid new 4 refused_line report l p r)))
-
-pub ran_on : {W : Type 0} (wire : W → WireView) (old mid new : WorldView) (words : List (String Global)) (name bytes : List ℕ) (listen backend at to : Addr) (report : Report W)
-    → IsServe words → name ≡ name_of words → WorldLater old mid → Logs old.printed mid.printed [] → Holds old.files name bytes → IsFileOf listen backend bytes
-    → at ≡ listen → to ≡ backend → Ends wire mid new at to report → Ran wire old new words report
-ran_on wire old mid new words name bytes listen backend at to report s n l p h f a b e =
-    let P : List ℕ → Type 0 = λ k. Holds old.files k bytes in
-    let Q : Addr → Type 0 = λ x. Ends wire mid new x to report in
-    let R : Addr → Type 0 = λ x. Ends wire mid new listen x report in
-    inr (s, inr (inr (inl (listen, backend, (bytes, subst P n h, f), ends_behind wire old mid new listen backend report l p (subst R b (subst Q a e))))))
-
-pub ran_out : {W : Type 0} (wire : W → WireView) (old mid new : WorldView) (words : List (String Global)) (report : Report W) → IsServe words → WorldLater old mid → Logs old.printed mid.printed []
-    → Refuses mid new 7 memory_line report → Ran wire old new words report
-ran_out wire old mid new words report s l p r = inr (s, inr (inr (inr (refuses_behind old mid new 7 memory_line report l p r))))
+pub ran_out : {W : Type 0} (wire : W → WireView) (old mid new : WorldView) (words : List (String Global)) (name : List ℕ) (table : Table) (report : Report W)
+    → IsServe words → name ≡ name_of words → Loads old mid name (Ok table) → Refuses mid new 7 memory_line report → Ran wire old new words report
+ran_out wire old mid new words name table report s n l r = ran_on wire old mid new words name table table report s n l refl (inr (inr r))

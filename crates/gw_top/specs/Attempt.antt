@@ -1,8 +1,8 @@
 -- An attempt to get a reply from a backend: what its link got and gave.
-use Rattle.std.specs.Prelude.{ℕ, ◌≡◌, ◌<◌, ◌⊎◌, List, ◌++◌, length, All}
+use Rattle.std.specs.Prelude.{ℕ, ◌≡◌, ◌<◌, ◌⊎◌, List, ◌++◌, length, All, Some, None}
 use Rattle.gw_wire.specs.declared.values.Act.{Act}
 use Rattle.gw_wire.specs.Stretch.{Then, Either}
-use Rattle.gw_head.specs.declared.error.HeadError.TheVariants.{Malformed}
+use Rattle.gw_head.specs.declared.error.HeadError.{HeadError}
 use Rattle.gw_head.specs.declared.reply.ReplyHead.{ReplyHead}
 use Rattle.gw_head.specs.Head.{ReplyHeadOf, BadReplyHead}
 use Rattle.gw_head.specs.Stage.{IsTooLong, IsUndecided}
@@ -10,32 +10,45 @@ use Rattle.gw_top.specs.declared.attempt.Answered.{Answered}
 use Rattle.gw_top.specs.declared.attempt.Answered.TheVariants as answered
 use Rattle.gw_top.specs.declared.waits.Sent.TheVariants as sent
 use Rattle.gw_top.specs.Hearing.{IsReadOf, Reads, Breaks}
+use Rattle.gw_top.specs.Plain.{plain_length}
 use Rattle.gw_top.specs.Waits.{Writes, Says}
+
+-- the head of a reply that is passed on as it is read, with the length of its body
+pub record IsTakenHead (front : List ℕ) (count : ℕ) : Type 0 where
+  pub head : ReplyHead
+  pub head_of : ReplyHeadOf front head
+  pub plain : plain_length head ≡ Some count
 
 -- a whole reply: a head that is taken, and a body of its length (RFC 9112, section 6)
 pub record IsWholeReply (reply : List ℕ) : Type 0 where
-  pub head : ReplyHead
+  pub front : List ℕ
   pub body : List ℕ
-  pub parts : reply ≡ head.bytes ++ body
-  pub head_of : ReplyHeadOf head.bytes head
-  pub count : length body ≡ head.length
+  pub parts : reply ≡ front ++ body
+  pub taken : IsTakenHead front (length body)
 
 -- a head that is taken, and less of a body than its length
 pub record IsShortReply (bytes : List ℕ) : Type 0 where
-  pub head : ReplyHead
+  pub front : List ℕ
   pub body : List ℕ
-  pub parts : bytes ≡ head.bytes ++ body
-  pub head_of : ReplyHeadOf head.bytes head
-  pub short : length body < head.length
+  pub count : ℕ
+  pub parts : bytes ≡ front ++ body
+  pub taken : IsTakenHead front count
+  pub short : length body < count
 
 -- bytes that stop inside a head or inside a body, and may go on to a whole reply
 abbrev pub IsPartOfReply : List ℕ → Type 0
 IsPartOfReply bytes = IsUndecided bytes ⊎ IsShortReply bytes
 
+-- a head that isn't taken: it fails a check, or is none that can be passed on as it is read
+abbrev pub IsRefusedHead : List ℕ → Type 0
+IsRefusedHead front =
+    ((error : HeadError) × BadReplyHead front error)
+    ⊎ ((head : ReplyHead) × ReplyHeadOf front head × (plain_length head ≡ None))
+
 -- bytes that begin with a head that isn't taken, or with more than a head may have
 abbrev pub IsRefusedReply : List ℕ → Type 0
 IsRefusedReply bytes =
-    ((front : List ℕ) × (behind : List ℕ) × (bytes ≡ front ++ behind) × BadReplyHead front Malformed) ⊎ IsTooLong bytes
+    ((front : List ℕ) × (behind : List ℕ) × (bytes ≡ front ++ behind) × IsRefusedHead front) ⊎ IsTooLong bytes
 
 -- what was heard of a backend that was written a whole request
 abbrev pub HearsReply : ℕ → Answered → List Act → Type 0
@@ -63,12 +76,12 @@ attempt_waits answered.Broken = 0
 attempt_waits answered.Late = 1000000
 attempt_waits answered.NoMemory = 0
 
--- what was heard behind a head and the bytes that came with it
-abbrev pub HearsBody : ℕ → ReplyHead → List ℕ → Answered → List Act → Type 0
-HearsBody link head first (answered.Whole reply) acts =
-    (body : List ℕ) × (ahead : List ℕ) × (heard : List ℕ) × (reply.items ≡ head.bytes ++ body) × (length body ≡ head.length)
+-- what was heard behind a head whose body has `count` bytes, and behind the bytes that came with it
+abbrev pub HearsBody : ℕ → List ℕ → ℕ → List ℕ → Answered → List Act → Type 0
+HearsBody link front count first (answered.Whole reply) acts =
+    (body : List ℕ) × (ahead : List ℕ) × (heard : List ℕ) × (reply.items ≡ front ++ body) × (length body ≡ count)
     × (first ++ heard ≡ body ++ ahead) × Reads link heard acts
-HearsBody link head first answered.Broken acts =
-    (heard : List ℕ) × (length (first ++ heard) < head.length) × Then (Reads link heard) (Breaks link) acts
-HearsBody link head first answered.Late acts = (heard : List ℕ) × (length (first ++ heard) < head.length) × Reads link heard acts
-HearsBody link head first answered.NoMemory acts = All (IsReadOf link) acts
+HearsBody link front count first answered.Broken acts =
+    (heard : List ℕ) × (length (first ++ heard) < count) × Then (Reads link heard) (Breaks link) acts
+HearsBody link front count first answered.Late acts = (heard : List ℕ) × (length (first ++ heard) < count) × Reads link heard acts
+HearsBody link front count first answered.NoMemory acts = All (IsReadOf link) acts

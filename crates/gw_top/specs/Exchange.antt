@@ -46,33 +46,33 @@ answer_waits answer.Unreachable = 0
 answer_waits answer.Full = 0
 
 -- the caller's entries: a want that was granted and its dial, and the drop of the connection that it gave
-abbrev pub Makes : ℕ → Answer → List Entry → Type 0
-Makes link (answer.Tried tried) made =
+abbrev pub Makes : ℕ → ℕ → Answer → List Entry → Type 0
+Makes host link (answer.Tried tried) made =
     (want : ℕ) × (conn : ℕ) × (asked : ℕ) × (dialed : ℕ)
-    × (made ≡ (made_want want asked ++ made_dialed want conn link dialed) ++ made_drop conn)
-Makes link answer.Unreachable made = (want : ℕ) × (asked : ℕ) × (made ≡ made_want want asked ++ made_failed want)
-Makes link answer.Full made = made ≡ []
+    × (made ≡ (made_want host want asked ++ made_dialed want conn link dialed) ++ made_drop conn)
+Makes host link answer.Unreachable made = (want : ℕ) × (asked : ℕ) × (made ≡ made_want host want asked ++ made_failed want)
+Makes host link answer.Full made = made ≡ []
 
 -- the acts on the backend: one dial, and one attempt on the link that it gave, which is closed behind it
-abbrev pub Exchanges : List Addr → Addr → List ℕ → ℕ → Answer → List Act → Type 0
-Exchanges members backend head link (answer.Tried tried) acts =
-    Then (DialsTo members backend link) (Then (Attempts link head tried) (Acts (Closed link ∷ []))) acts
-Exchanges members backend head link answer.Unreachable acts = DialFails members backend acts
-Exchanges members backend head link answer.Full acts = acts ≡ []
+abbrev pub Exchanges : List Addr → ℕ → Addr → List ℕ → ℕ → Answer → List Act → Type 0
+Exchanges members host backend head link (answer.Tried tried) acts =
+    Then (DialsTo members host backend link) (Then (Attempts link head tried) (Acts (Closed link ∷ []))) acts
+Exchanges members host backend head link answer.Unreachable acts = DialFails members host backend acts
+Exchanges members host backend head link answer.Full acts = acts ≡ []
 
--- an exchange; `link` is the number of the backend's link, where one was dialed
-pub record Exchanged (old new : WireView) (before after : Lent) (backend : Addr) (head : List ℕ) (result : Answer) : Type 0 where
+-- an exchange with a host; `link` is the number of the backend's link, where one was dialed
+pub record Exchanged (old new : WireView) (before after : Lent) (host : ℕ) (backend : Addr) (head : List ℕ) (result : Answer) : Type 0 where
   pub later : Later old new
   pub fresh : new.aged ≡ false
   pub vacant : IsVacant after
   pub link : ℕ
   pub made : List Entry
-  pub makes : Makes link result made
+  pub makes : Makes host link result made
   pub full : is_full before.limits before.seen ≡ is_refused result
   pub grows : Grows before after made
   pub faults : RoseBy (failed_dials result) old.dial_faults new.dial_faults
   pub waited : RoseBy (answer_waits result) old.ticks new.ticks
-  pub log : Told old.log new.log (Exchanges (old.groups backend) backend head link result)
+  pub log : Told old.log new.log (Exchanges (old.groups backend) host backend head link result)
 
 -- the writes of an answer
 abbrev pub SaysAnswer : ℕ → Option (List ℕ) → Sent → List Act → Type 0

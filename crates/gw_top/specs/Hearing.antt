@@ -4,7 +4,8 @@ use Rattle.gw_wire.specs.declared.values.Act.{Act}
 use Rattle.gw_wire.specs.declared.values.Act.TheVariants.{Read, End, ReadFailed}
 use Rattle.gw_wire.specs.Acts.{bytes_read}
 use Rattle.gw_wire.specs.Stretch.{Told, Then}
-use Rattle.gw_head.specs.declared.error.HeadError.TheVariants.{Malformed}
+use Rattle.gw_head.specs.declared.error.HeadError.{HeadError}
+use Rattle.gw_head.specs.declared.error.HeadError.TheVariants.{TooLong}
 use Rattle.gw_head.specs.Head.{RequestHeadOf, BadRequestHead}
 use Rattle.gw_head.specs.Stage.{IsTooLong, IsUndecided}
 use Rattle.gw_top.specs.declared.request.Request.{Request}
@@ -23,32 +24,33 @@ pub record Reads (link : ℕ) (bytes : List ℕ) (acts : List Act) : Type 0 wher
 abbrev pub Breaks : ℕ → List Act → Type 0
 Breaks link acts = (acts ≡ End link ∷ []) ⊎ (acts ≡ ReadFailed link ∷ [])
 
--- bytes that begin with a head that isn't taken, or with more than a head may have
-abbrev pub IsRefusedRequest : List ℕ → Type 0
-IsRefusedRequest bytes =
-    ((front : List ℕ) × (behind : List ℕ) × (bytes ≡ front ++ behind) × BadRequestHead front Malformed) ⊎ IsTooLong bytes
+-- bytes that begin with a head that fails this check first, or with more than a head may have
+abbrev pub IsRefusedRequest : HeadError → List ℕ → Type 0
+IsRefusedRequest error bytes =
+    ((front : List ℕ) × (behind : List ℕ) × (bytes ≡ front ++ behind) × BadRequestHead front error)
+    ⊎ (IsTooLong bytes × (error ≡ TooLong))
 
 -- whether a byte came
 abbrev pub Began : Bool → List ℕ → Type 0
 Began true bytes = 0 < length bytes
 Began false bytes = bytes ≡ []
 
--- what was heard of a client, by what came of its request
-abbrev pub HearsRequest : ℕ → Request → List Act → Type 0
-HearsRequest link (request.Head head) acts = (ahead : List ℕ) × RequestHeadOf head.bytes head × Reads link (head.bytes ++ ahead) acts
-HearsRequest link request.Refused acts = (bytes : List ℕ) × IsRefusedRequest bytes × Reads link bytes acts
-HearsRequest link (request.Gone began) acts =
+-- what was heard of a client, by what came of its request; `text` is that of a head which is whole
+abbrev pub HearsRequest : ℕ → List ℕ → Request → List Act → Type 0
+HearsRequest link text (request.Head head) acts = (ahead : List ℕ) × RequestHeadOf text head × Reads link (text ++ ahead) acts
+HearsRequest link text (request.Refused error) acts = (bytes : List ℕ) × IsRefusedRequest error bytes × Reads link bytes acts
+HearsRequest link text (request.Gone began) acts =
     (bytes : List ℕ) × IsUndecided bytes × Began began bytes × Then (Reads link bytes) (Breaks link) acts
-HearsRequest link (request.Silent began) acts = (bytes : List ℕ) × IsUndecided bytes × Began began bytes × Reads link bytes acts
-HearsRequest link (request.NoMemory began) acts = (bytes : List ℕ) × Began began bytes × Reads link bytes acts
+HearsRequest link text (request.Silent began) acts = (bytes : List ℕ) × IsUndecided bytes × Began began bytes × Reads link bytes acts
+HearsRequest link text request.NoMemory acts = (bytes : List ℕ) × (0 < length bytes) × Reads link bytes acts
 
 -- how many ticks it waited through in a wait that was given up
 abbrev pub request_waits : Request → ℕ
 request_waits (request.Head head) = 0
-request_waits request.Refused = 0
+request_waits (request.Refused error) = 0
 request_waits (request.Gone began) = 0
 request_waits (request.Silent began) = 1000000
-request_waits (request.NoMemory began) = 0
+request_waits request.NoMemory = 0
 
 -- a head that is being heard: so many pieces came, and these bytes, of which nothing is decided
 pub record Hearing (link pieces : ℕ) (old new : Option (List Act)) (stream : List ℕ) : Type 0 where

@@ -28,18 +28,18 @@ use Rattle.gw_top.specs.declared.lease.Leased.TheVariants as leased
 abbrev pub bare : ℕ → ℕ → ℕ → State
 bare want conn stamp = record { wants = []; dials = []; conns = []; next_want = want; next_conn = conn; next_stamp = stamp }
 
-abbrev pub granted : ℕ → ℕ → ℕ → State
-granted want conn stamp = record (bare (want + 1) conn stamp) { wants = (record { want = want; host = 0; caller = 0; stage = Granted }) ∷ [] }
+abbrev pub granted : ℕ → ℕ → ℕ → ℕ → State
+granted host want conn stamp = record (bare (want + 1) conn stamp) { wants = (record { want = want; host = host; caller = 0; stage = Granted }) ∷ [] }
 
-abbrev pub dialing : ℕ → ℕ → ℕ → State
-dialing want conn stamp = record (bare (want + 1) conn stamp) {
-  wants = (record { want = want; host = 0; caller = 0; stage = Dialing }) ∷ [];
-  dials = (record { want = want; host = 0; caller = 0 }) ∷ [];
+abbrev pub dialing : ℕ → ℕ → ℕ → ℕ → State
+dialing host want conn stamp = record (bare (want + 1) conn stamp) {
+  wants = (record { want = want; host = host; caller = 0; stage = Dialing }) ∷ [];
+  dials = (record { want = want; host = host; caller = 0 }) ∷ [];
 }
 
-abbrev pub connected : ℕ → ℕ → ℕ → ℕ → State
-connected want conn link stamp = record (bare (want + 1) (conn + 1) stamp) {
-  conns = (record { conn = conn; host = 0; link = link; reused = false; place = Out want 0 }) ∷ [];
+abbrev pub connected : ℕ → ℕ → ℕ → ℕ → ℕ → State
+connected host want conn link stamp = record (bare (want + 1) (conn + 1) stamp) {
+  conns = (record { conn = conn; host = host; link = link; reused = false; place = Out want 0 }) ∷ [];
 }
 
 -- the pool's only caller finds it in this state, with these tokens out
@@ -49,7 +49,6 @@ pub record Stands (lent : Lent) (s : State) (out : List Holding) : Type 0 where
   pub number : lent.number ≡ 0
   pub alone : lent.limits.passes ≡ 1
   pub one : 0 < lent.limits.per_pass
-  pub hosts : 0 < lent.limits.hosts
 
 -- there is no want, no dial and no connection
 pub record IsVacant (lent : Lent) : Type 0 where
@@ -60,23 +59,26 @@ pub record IsVacant (lent : Lent) : Type 0 where
 
 -- there is one want alone, which was granted a place
 pub record IsGranted (lent : Lent) (want : ℕ) : Type 0 where
+  pub host : ℕ
   pub conn : ℕ
   pub stamp : ℕ
-  pub stands : Stands lent (granted want conn stamp) (ticket_of want ∷ [])
+  pub stands : Stands lent (granted host want conn stamp) (ticket_of want ∷ [])
 
 -- there is one dial alone
 pub record IsDialing (lent : Lent) (want : ℕ) : Type 0 where
+  pub host : ℕ
   pub conn : ℕ
   pub stamp : ℕ
-  pub stands : Stands lent (dialing want conn stamp) (with_dial (ticket_of want) ∷ [])
+  pub stands : Stands lent (dialing host want conn stamp) (with_dial (ticket_of want) ∷ [])
 
 -- there is one connection alone, and it is lent
 abbrev pub lent_to : ℕ → Holding
 lent_to want = record { want = want; ticket = false; dial = false; lease = true }
 
 pub record IsConnected (lent : Lent) (want conn link : ℕ) : Type 0 where
+  pub host : ℕ
   pub stamp : ℕ
-  pub stands : Stands lent (connected want conn link stamp) (lent_to want ∷ [])
+  pub stands : Stands lent (connected host want conn link stamp) (lent_to want ∷ [])
 
 -- the caller made these entries, and nobody else made any
 pub record Grows (before after : Lent) (made : List Entry) : Type 0 where
@@ -85,8 +87,8 @@ pub record Grows (before after : Lent) (made : List Entry) : Type 0 where
   pub mine : after.mine ≡ before.mine ++ made
 
 -- the entries of a dial for a want, by what came of it
-abbrev pub made_want : ℕ → ℕ → List Entry
-made_want want at = entry_of 0 (call.Want 0 at) (reply.Granted want) ∷ []
+abbrev pub made_want : ℕ → ℕ → ℕ → List Entry
+made_want host want at = entry_of 0 (call.Want host at) (reply.Granted want) ∷ []
 
 abbrev pub made_failed : ℕ → List Entry
 made_failed want = entry_of 0 (call.Start want) reply.Go ∷ entry_of 0 (call.DialFailed want) (reply.Ended None) ∷ []
@@ -98,12 +100,12 @@ made_dialed want conn link at =
 abbrev pub made_drop : ℕ → List Entry
 made_drop conn = entry_of 0 (call.Drop conn) (reply.Dropped None) ∷ []
 
--- a dial of host 0 reached this address, or a member of the group that it stands for, and gave this link or failed
-abbrev pub DialsTo : List Addr → Addr → ℕ → List Act → Type 0
-DialsTo members backend link acts = (reached : Addr) × IsOneOf members backend reached × (acts ≡ Dialed 0 reached link ∷ [])
+-- a dial of a host reached this address, or a member of the group that it stands for, and gave this link or failed
+abbrev pub DialsTo : List Addr → ℕ → Addr → ℕ → List Act → Type 0
+DialsTo members host backend link acts = (reached : Addr) × IsOneOf members backend reached × (acts ≡ Dialed host reached link ∷ [])
 
-abbrev pub DialFails : List Addr → Addr → List Act → Type 0
-DialFails members backend acts = (reached : Addr) × IsOneOf members backend reached × (acts ≡ DialFailed 0 reached ∷ [])
+abbrev pub DialFails : List Addr → ℕ → Addr → List Act → Type 0
+DialFails members host backend acts = (reached : Addr) × IsOneOf members backend reached × (acts ≡ DialFailed host reached ∷ [])
 
 -- a lease: the connection of its link, and nothing else in the pool
 pub record IsLeased {C : Type 0} (link : C → LinkView) (lent : Lent) (l : Lease C) : Type 0 where
@@ -111,35 +113,35 @@ pub record IsLeased {C : Type 0} (link : C → LinkView) (lent : Lent) (l : Leas
   pub lease : LeaseOf link lent l
 
 -- the dial of a granted want
-abbrev pub DialedBy : {C : Type 0} → (C → LinkView) → WireView → WireView → Lent → Lent → Addr → ℕ → Leased C → Type 0
-DialedBy link old new before after backend want (leased.Lease l) =
+abbrev pub DialedBy : {C : Type 0} → (C → LinkView) → WireView → WireView → Lent → Lent → ℕ → Addr → ℕ → Leased C → Type 0
+DialedBy link old new before after host backend want (leased.Lease l) =
     (l.want ≡ want) × IsLeased link after l × ((at : ℕ) × Grows before after (made_dialed want l.no l.link at))
-    × Told old.log new.log (DialsTo (old.groups backend) backend l.link)
-DialedBy link old new before after backend want leased.Unreachable =
+    × Told old.log new.log (DialsTo (old.groups backend) host backend l.link)
+DialedBy link old new before after host backend want leased.Unreachable =
     IsVacant after × Grows before after (made_failed want) × Rose old.dial_faults new.dial_faults
-    × Told old.log new.log (DialFails (old.groups backend) backend)
-DialedBy link old new before after backend want leased.Full = ⊥
+    × Told old.log new.log (DialFails (old.groups backend) host backend)
+DialedBy link old new before after host backend want leased.Full = ⊥
 
-pub record DialedStep {C : Type 0} (link : C → LinkView) (old new : WireView) (before after : Lent) (backend : Addr) (want : ℕ) (result : Leased C) : Type 0 where
+pub record DialedStep {C : Type 0} (link : C → LinkView) (old new : WireView) (before after : Lent) (host : ℕ) (backend : Addr) (want : ℕ) (result : Leased C) : Type 0 where
   pub later : Later old new
   pub fresh : new.aged ≡ false
-  pub does : DialedBy link old new before after backend want result
+  pub does : DialedBy link old new before after host backend want result
 
 -- a want and its dial
-abbrev pub LeasedBy : {C : Type 0} → (C → LinkView) → WireView → WireView → Lent → Lent → Addr → Leased C → Type 0
-LeasedBy link old new before after backend (leased.Lease l) =
+abbrev pub LeasedBy : {C : Type 0} → (C → LinkView) → WireView → WireView → Lent → Lent → ℕ → Addr → Leased C → Type 0
+LeasedBy link old new before after host backend (leased.Lease l) =
     (is_full before.limits before.seen ≡ false) × IsLeased link after l
-    × ((asked : ℕ) × (dialed : ℕ) × Grows before after (made_want l.want asked ++ made_dialed l.want l.no l.link dialed))
-    × Told old.log new.log (DialsTo (old.groups backend) backend l.link)
-LeasedBy link old new before after backend leased.Unreachable =
+    × ((asked : ℕ) × (dialed : ℕ) × Grows before after (made_want host l.want asked ++ made_dialed l.want l.no l.link dialed))
+    × Told old.log new.log (DialsTo (old.groups backend) host backend l.link)
+LeasedBy link old new before after host backend leased.Unreachable =
     (is_full before.limits before.seen ≡ false) × IsVacant after
-    × ((want : ℕ) × (asked : ℕ) × Grows before after (made_want want asked ++ made_failed want))
+    × ((want : ℕ) × (asked : ℕ) × Grows before after (made_want host want asked ++ made_failed want))
     × Rose old.dial_faults new.dial_faults
-    × Told old.log new.log (DialFails (old.groups backend) backend)
-LeasedBy link old new before after backend leased.Full =
+    × Told old.log new.log (DialFails (old.groups backend) host backend)
+LeasedBy link old new before after host backend leased.Full =
     (is_full before.limits before.seen ≡ true) × IsVacant after × Grows before after [] × Logs old.log new.log []
 
-pub record LeasedStep {C : Type 0} (link : C → LinkView) (old new : WireView) (before after : Lent) (backend : Addr) (result : Leased C) : Type 0 where
+pub record LeasedStep {C : Type 0} (link : C → LinkView) (old new : WireView) (before after : Lent) (host : ℕ) (backend : Addr) (result : Leased C) : Type 0 where
   pub later : Later old new
   pub fresh : new.aged ≡ false
-  pub does : LeasedBy link old new before after backend result
+  pub does : LeasedBy link old new before after host backend result

@@ -3,8 +3,12 @@ pub mod Command
 pub mod Exchange
 pub mod Hearing
 pub mod Leased
+pub mod Lines
+pub mod Load
+pub mod Plain
+pub mod Printed
 pub mod Replies
-pub mod RouteFile
+pub mod Routing
 pub mod Run
 pub mod Status
 pub mod Thin

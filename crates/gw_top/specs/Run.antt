@@ -11,6 +11,7 @@ use Rattle.gw_pool.specs.declared.limits.Limits.{Limits}
 use Rattle.gw_pool.specs.History.{IsLegal, AreBelow}
 use Rattle.gw_pool.specs.Idle.{idle_links}
 use Rattle.gw_pool.specs.Lent.{Lent}
+use Rattle.gw_routes.specs.declared.table.Table.{Table}
 use Rattle.gw_top.specs.declared.worker.Worker.{Worker}
 use Rattle.gw_top.specs.Leased.{IsVacant, Grows}
 use Rattle.gw_top.specs.Thin.{Turn, ThinExchange, FitsAt, made_in, began_in, failed_in, waits_in}
@@ -21,12 +22,12 @@ pub record Visit : Type 0 where
   pub peer : List ℕ
   pub turn : Turn
 
-abbrev pub Visited : List Addr → Addr → Visit → List Act → Type 0
-Visited members backend v = Then (Acts (Accepted v.client v.peer ∷ [])) (ThinExchange v.client members backend v.turn)
+abbrev pub Visited : (Addr → List Addr) → Table → Visit → List Act → Type 0
+Visited groups table v = Then (Acts (Accepted v.client v.peer ∷ [])) (ThinExchange v.client groups table v.turn)
 
-abbrev pub Visits : List Addr → Addr → List Visit → List Act → Type 0
-Visits members backend [] acts = acts ≡ []
-Visits members backend (v ∷ later) acts = Then (Visited members backend v) (Visits members backend later) acts
+abbrev pub Visits : (Addr → List Addr) → Table → List Visit → List Act → Type 0
+Visits groups table [] acts = acts ≡ []
+Visits groups table (v ∷ later) acts = Then (Visited groups table v) (Visits groups table later) acts
 
 -- the caller's entries in all of them, in their order
 abbrev pub made_by : List Visit → List Entry
@@ -52,7 +53,7 @@ abbrev pub counted : ℕ → ℕ
 counted count = min count (2 ^ 64 - 1)
 
 -- clients were served since, and so many requests began
-pub record Serving (old new : WireView) (before after : Lent) (backend : Addr) (entered : ℕ) (visits : List Visit) : Type 0 where
+pub record Serving (old new : WireView) (before after : Lent) (table : Table) (entered : ℕ) (visits : List Visit) : Type 0 where
   pub later : Later old new
   pub fresh : new.aged ≡ false
   pub vacant : IsVacant after
@@ -61,14 +62,14 @@ pub record Serving (old new : WireView) (before after : Lent) (backend : Addr) (
   pub count : entered ≡ counted (began_by visits)
   pub faults : RoseBy (failed_by visits) old.dial_faults new.dial_faults
   pub waited : RoseBy (waits_by visits) old.ticks new.ticks
-  pub log : Told old.log new.log (Visits (old.groups backend) backend visits)
+  pub log : Told old.log new.log (Visits old.groups table visits)
 
 -- a worker's last act but for closes: the listener ended, or an accept failed
 abbrev pub last_act : Bool → Act
 last_act failed = if failed then AcceptFailed else Ended
 
 -- a worker served clients until its listener ended or an accept failed
-pub record Worked (old new : WireView) (before after : Lent) (backend : Addr) (entered : ℕ) (failed : Bool) : Type 0 where
+pub record Worked (old new : WireView) (before after : Lent) (table : Table) (entered : ℕ) (failed : Bool) : Type 0 where
   pub visits : List Visit
   pub later : Later old new
   pub fresh : new.aged ≡ false
@@ -78,26 +79,26 @@ pub record Worked (old new : WireView) (before after : Lent) (backend : Addr) (e
   pub count : entered ≡ counted (began_by visits)
   pub faults : RoseBy (failed_by visits) old.dial_faults new.dial_faults
   pub waited : RoseBy (waits_by visits) old.ticks new.ticks
-  pub log : Told old.log new.log (Then (Visits (old.groups backend) backend visits) (Acts (last_act failed ∷ [])))
+  pub log : Told old.log new.log (Then (Visits old.groups table visits) (Acts (last_act failed ∷ [])))
 
 -- a log that is told is all of this
 abbrev pub LogIs : Option (List Act) → (List Act → Type 0) → Type 0
 LogIs None P = Unit {0}
 LogIs (Some acts) P = P acts
 
--- The run of one worker over one backend. The journal is one legal history: the entries of its exchanges in their order,
+-- The run of one worker over a table. The journal is one legal history: the entries of its exchanges in their order,
 -- and no others. Its log is its clients one after the other, then the end, then a close of each connection that is idle
--- at the end of the history. Of the addresses that the backend's stands for there are these members, or none.
-pub record Run {W : Type 0} (wire : W → WireView) (limits : Limits) (members : List Addr) (backend : Addr) (journal : List Entry) (worker : Worker W) : Type 0 where
+-- at the end of the history. An address stands for a group of these members, or for itself.
+pub record Run {W : Type 0} (wire : W → WireView) (groups : Addr → List Addr) (table : Table) (journal : List Entry) (worker : Worker W) : Type 0 where
   pub visits : List Visit
-  pub legal : IsLegal limits journal
-  pub callers : AreBelow limits.passes journal
+  pub legal : IsLegal table.limits journal
+  pub callers : AreBelow table.limits.passes journal
   pub all : journal ≡ made_by visits
-  pub fits : Follow limits [] visits
+  pub fits : Follow table.limits [] visits
   pub number : worker.number ≡ 0
   pub entered : worker.entered ≡ counted (began_by visits)
   pub faults : RoseBy (failed_by visits) 0 (wire worker.wire).dial_faults
   pub waited : RoseBy (waits_by visits) 0 (wire worker.wire).ticks
   pub log : LogIs (wire worker.wire).log
-      (Then (Then (Visits members backend visits) (Acts (last_act worker.accept_failed ∷ [])))
-      (Acts (map Closed (idle_links limits journal))))
+      (Then (Then (Visits groups table visits) (Acts (last_act worker.accept_failed ∷ [])))
+      (Acts (map Closed (idle_links table.limits journal))))

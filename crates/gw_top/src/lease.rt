@@ -1,4 +1,4 @@
-// A connection to the only backend, dialed for one exchange.
+// A connection to a backend, dialed for one exchange.
 
 ghost use Rattle.std.specs.Prelude.{◌≡◌, ◌<◌, false, [], ◌∷◌};
 ghost use Rattle.gw_top.specs.Leased.{IsVacant, IsGranted, LeasedStep, DialedStep};
@@ -16,19 +16,21 @@ pub enum Leased<C> {
     Full,
 }
 
-/// Wants a connection to host 0 of a pool that has none, and dials its address.
+/// Wants a connection to a host of a pool that has none, and dials its address.
 pub fn lease<W: Wire, L: Leases<W::Conn>>(
     wire: &mut W,
     leases: &mut L,
+    host: u32,
     addr: &Addr,
 ) -> Leased<W::Conn>
     requires fresh { (W.wire wire.old).aged ≡ false }
     requires vacant { IsVacant (L.lent leases.old) }
-    ensures { LeasedStep W.Conn.link (W.wire wire.old) (W.wire wire.new) (L.lent leases.old) (L.lent leases.new) addr.now result }
+    requires within { host < (L.lent leases.old).limits.hosts }
+    ensures { LeasedStep W.Conn.link (W.wire wire.old) (W.wire wire.new) (L.lent leases.old) (L.lent leases.new) host addr.now result }
 {
     let now = wire.now();
-    match leases.want(0, now) {
-        Want::Ticket(ticket) => dial(wire, leases, ticket, addr),
+    match leases.want(host, now) {
+        Want::Ticket(ticket) => dial(wire, leases, ticket, host, addr),
         Want::Expired(_conn) => unreachable!(),
         Want::JournalFull => Leased::Full,
     }
@@ -39,17 +41,18 @@ fn dial<W: Wire, L: Leases<W::Conn>>(
     wire: &mut W,
     leases: &mut L,
     ticket: Ticket,
+    host: u32,
     addr: &Addr,
 ) -> Leased<W::Conn>
     requires fresh { (W.wire wire.old).aged ≡ false }
     requires granted { IsGranted (L.lent leases.old) ticket.want }
-    ensures { DialedStep W.Conn.link (W.wire wire.old) (W.wire wire.new) (L.lent leases.old) (L.lent leases.new) addr.now ticket.want result }
+    ensures { DialedStep W.Conn.link (W.wire wire.old) (W.wire wire.new) (L.lent leases.old) (L.lent leases.new) host addr.now ticket.want result }
 {
     let token = match leases.start(&ticket) {
         Start::Go(token) => token,
         Start::NotGranted => unreachable!(),
     };
-    match wire.dial(0, addr) {
+    match wire.dial(host, addr) {
         Dial::Conn(conn) => {
             let now = wire.now();
             let Put { close: _ } = leases.dialed(token, conn, now);

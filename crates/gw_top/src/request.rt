@@ -3,13 +3,13 @@
 ghost use Rattle.std.specs.Prelude.{◌≡◌, ◌<◌, length, false};
 ghost use Rattle.gw_wire.specs.Causes.{RoseBy};
 ghost use Rattle.gw_wire.specs.Stretch.{Told};
+ghost use Rattle.gw_head.specs.Stage.{bytes_of};
 ghost use Rattle.gw_top.specs.Hearing.{HearsRequest, request_waits};
 ghost use Rattle.gw_top.specs.Waits.{GoesOn};
 
 use crate::waits::{Heard, hear};
-use gw_head::{HeadReader, RequestHead, Step};
+use gw_head::{HeadError, HeadReader, RequestHead, Step};
 use gw_wire::Wire;
-use std::alloc::Global;
 
 /// A head has fewer bytes than so many pieces, or ends with the last of them.
 pub const PIECES: u32 = 65_536;
@@ -17,34 +17,33 @@ pub const PIECES: u32 = 65_536;
 /// What came of a client's request. The marks say whether a byte of it came.
 #[derive(Debug, Drop)]
 pub enum Request {
-    /// A head that is served.
+    /// A whole head, whose bytes the reader has.
     Head(RequestHead),
-    /// A head that isn't served, or too many bytes without an end of a head.
-    Refused,
+    /// A head that fails this check first, or has too many bytes without an end.
+    Refused(HeadError),
     /// The client ended or failed inside a head or before it.
     Gone(bool),
     /// The client stayed silent through a whole wait, inside a head or before it.
     Silent(bool),
-    /// Memory was wanting.
-    NoMemory(bool),
+    /// Memory was wanting for a good head.
+    NoMemory,
 }
 
 /// Reads the head of a client's request.
 pub fn hear_request<W: Wire>(
-    alloc: Global,
     wire: &mut W,
     client: &mut W::Conn,
+    reader: &mut HeadReader,
     buf: &mut [u8],
 ) -> Request
     requires fresh { (W.wire wire.old).aged ≡ false }
     requires room { 0 < length buf.old }
     ensures goes { GoesOn (W.wire wire.old) (W.wire wire.new) (W.Conn.link client.old) (W.Conn.link client.new) }
     ensures waited { RoseBy (request_waits result) (W.wire wire.old).ticks (W.wire wire.new).ticks }
-    ensures log { Told (W.wire wire.old).log (W.wire wire.new).log (HearsRequest (W.Conn.link client.old).number result) }
+    ensures log { Told (W.wire wire.old).log (W.wire wire.new).log
+        (HearsRequest (W.Conn.link client.old).number (bytes_of reader.new) result) }
 {
-    let Ok(mut reader) = HeadReader::new(alloc) else {
-        return Request::NoMemory(false);
-    };
+    reader.restart();
     for piece in 0..PIECES {
         let n = match hear(wire, client, buf) {
             Heard::Got(n) => n,
@@ -56,9 +55,9 @@ pub fn hear_request<W: Wire>(
         match fed.step {
             Step::More => {}
             Step::Head(head) => return Request::Head(head),
-            Step::Bad(_) => return Request::Refused,
-            Step::NoMemory => return Request::NoMemory(true),
+            Step::Bad(error) => return Request::Refused(error),
+            Step::NoMemory => return Request::NoMemory,
         }
     }
-    Request::Refused
+    Request::Refused(HeadError::TooLong)
 }

@@ -1,16 +1,20 @@
 // The top call of `gateway serve ROUTES`.
 
-ghost use Rattle.std.specs.Prelude.{◌≡◌, ◌<◌, [], ◌∷◌, Some, map, IfOk, length, vec_capacity};
+ghost use Rattle.std.specs.Prelude.{◌≡◌, ◌<◌, [], ◌∷◌, Some, None, map, IfOk, length, vec_capacity};
 ghost use Rattle.gw_wire.specs.declared.values.Act.TheVariants.{Closed as ClosedAct};
 ghost use Rattle.gw_wire.specs.Stretch.{Told, Acts};
 ghost use Rattle.gw_wire.specs.Wire.{Later};
-ghost use Rattle.gw_top.specs.Status.{Ran, Ends, Refuses, RefusesOr7, Finished, IsReady, unreadable_line, unheard_line};
+ghost use Rattle.gw_routes.specs.Files.{AreNumbered};
+ghost use Rattle.gw_top.specs.Lines.{unheard_line};
+ghost use Rattle.gw_top.specs.Status.{Ran, Ends, Refuses, RefusesOr7, Finished, IsReady};
 
 use crate::command::{USAGE, serve_name};
-use crate::route_file::{Table, read_addresses};
+use crate::load::load_table;
 use crate::worker::{Worker, work};
-use gw_pool::{Closed, Entry, Limits, Solo};
-use gw_wire::{Addr, Listening, Loaded, Wire, World};
+use gw_head::HeadReader;
+use gw_pool::{Closed, Entry, Solo};
+use gw_routes::Table;
+use gw_wire::{Addr, Listening, Wire, World};
 use std::alloc::{AllocError, Global};
 use std::sync::Wait;
 use std::thread::Threads;
@@ -23,7 +27,7 @@ const BUFFER: usize = 65_536;
 #[derive(Drop)]
 pub struct Report<W> {
     /// 0: every worker ended with the listener. 2: the words are no command's form. 3: the route file can't be read.
-    /// 4: the route file is refused. 6: the address can't be listened on. 7: want of memory. 8: an accept failed.
+    /// 4: the route file has a fault. 5: two of its patterns conflict. 6: the address can't be listened on. 7: want of memory. 8: an accept failed.
     pub status: u8,
     /// The table that was served.
     pub table: Option<Table>,
@@ -36,9 +40,9 @@ pub struct Report<W> {
 // All that a run needs, made before it listens.
 struct Setup<W: Wire> {
     table: Table,
-    backend: Addr,
     pool: Solo<W::Conn>,
     workers: Vec<Worker<W>>,
+    reader: HeadReader,
     buf: Vec<u8>,
 }
 
@@ -55,48 +59,28 @@ pub fn run_gateway<R: Threads + Wait + Sync, H: World>(
     let Some(name) = serve_name(words) else {
         return refuse(alloc, world, 2, USAGE);
     };
-    let file = match world.read_routes(name) {
-        Loaded::Bytes(file) => file,
-        Loaded::Failed => return cannot_read(alloc, world, name),
-        Loaded::NoMemory => return refuse(alloc, world, 7, b"out of memory\n"),
+    let table = match load_table(alloc, world, name) {
+        Ok(table) => table,
+        Err(status) => return stopped(alloc, status),
     };
-    let Some((listen, backend)) = read_addresses(file.as_slice()) else {
-        return refuse(alloc, world, 4, b"bad routes: G1\n");
-    };
-    match prepare(alloc, listen, backend) {
+    match prepare(alloc, table) {
         Ok(setup) => listen_and_serve(rt, alloc, world, setup),
         Err(AllocError) => refuse(alloc, world, 7, b"out of memory\n"),
     }
 }
 
-/// Reserves what a run over one backend needs.
-fn prepare<W: Wire>(alloc: Global, listen: Addr, backend: Addr) -> Result<Setup<W>, AllocError>
+/// Reserves what a run over a table needs.
+fn prepare<W: Wire>(alloc: Global, table: Table) -> Result<Setup<W>, AllocError>
+    requires { AreNumbered table }
     ensures ready { IfOk result (λ setup. IsReady setup) }
-    ensures listens { IfOk result (λ setup. setup.table.listen ≡ listen) }
-    ensures leads { IfOk result (λ setup. setup.backend ≡ backend) }
+    ensures serves { IfOk result (λ setup. setup.table ≡ table) }
 {
-    let mut hosts = Vec::with_capacity(alloc, 1)?;
-    hosts.push(backend)?;
-    let limits = Limits {
-        idle_total: 100,
-        idle_per_host: 2,
-        conns_per_host: 0,
-        idle_ms: 90_000,
-        journal: 1_048_576,
-        passes: 1,
-        per_pass: 1,
-        hosts: 1,
-    };
+    let pool = Solo::open(alloc, table.limits)?;
     Ok(Setup {
-        table: Table {
-            listen,
-            workers: 1,
-            limits,
-            hosts,
-        },
-        backend,
-        pool: Solo::open(alloc, limits)?,
+        table,
+        pool,
         workers: Vec::with_capacity(alloc, 1)?,
+        reader: HeadReader::new(alloc)?,
         buf: vec![in alloc; 0; BUFFER]?,
     })
 }
@@ -109,13 +93,13 @@ fn listen_and_serve<R: Wait, H: World>(
     setup: Setup<H::Wire>,
 ) -> Report<H::Wire>
     requires { IsReady setup }
-    ensures { Ends H.Wire.wire (H.world world.old) (H.world world.new) setup.table.listen setup.backend result }
+    ensures { Ends H.Wire.wire (H.world world.old) (H.world world.new) setup.table result }
 {
     let Setup {
         table,
-        backend,
         mut pool,
         workers,
+        mut reader,
         mut buf,
     } = setup;
     let wire = match world.listen(&table.listen, table.workers) {
@@ -129,7 +113,15 @@ fn listen_and_serve<R: Wait, H: World>(
         entered: 0,
         accept_failed: false,
     };
-    work(rt, alloc, &mut worker, &mut pool, &backend, &mut buf);
+    work(
+        rt,
+        alloc,
+        &mut worker,
+        &mut pool,
+        &table,
+        &mut reader,
+        &mut buf,
+    );
     let Ok(Closed { journal, idle }) = pool.close() else {
         return refuse(alloc, world, 7, b"out of memory\n");
     };
@@ -203,13 +195,19 @@ fn first<W: Wire>(wires: Vec<W>) -> W
     }
 }
 
-/// The route file can't be read.
-fn cannot_read<H: World>(alloc: Global, world: &mut H, name: &str) -> Report<H::Wire>
-    ensures { Refuses (H.world world.old) (H.world world.new) 3 (unreadable_line name.now) result }
+/// The report of a run whose route file gave no table.
+fn stopped<W>(alloc: Global, status: u8) -> Report<W>
+    ensures status { result.status ≡ status }
+    ensures table { result.table ≡ None }
+    ensures journal { result.journal.items ≡ [] }
+    ensures workers { result.workers.items ≡ [] }
 {
-    let _ = world.print(b"cannot read ");
-    let _ = world.print(name.as_bytes());
-    refuse(alloc, world, 3, b"\n")
+    Report {
+        status,
+        table: None,
+        journal: Vec::new(alloc),
+        workers: Vec::new(alloc),
+    }
 }
 
 /// The address can't be listened on.
@@ -227,10 +225,5 @@ fn refuse<H: World>(alloc: Global, world: &mut H, status: u8, line: &[u8]) -> Re
     ensures { Refuses (H.world world.old) (H.world world.new) status line.now result }
 {
     let _ = world.print(line);
-    Report {
-        status,
-        table: None,
-        journal: Vec::new(alloc),
-        workers: Vec::new(alloc),
-    }
+    stopped(alloc, status)
 }

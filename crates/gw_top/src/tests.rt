@@ -203,6 +203,317 @@ fn usage(rt: HostRuntime) -> Result<(), Fail> {
     Ok(())
 }
 
+// The status of a command that ends, and what it printed.
+fn tells(alloc: Global, spoken: &[&str], file: &str, prints: bool) -> Result<(u8, Vec<u8>), Fail> {
+    let mut files = Vec::new(alloc);
+    files.push((bytes(alloc, b"f")?, bytes(alloc, file.as_bytes())?))?;
+    let none: Option<Vec<MemWire>> = None;
+    let mut world = MemWorld::new(alloc, files, none, prints)?;
+    let words = words(alloc, spoken)?;
+    let status = run_plain(alloc, words.as_slice(), &mut world);
+    Ok((status, world.printed().to_vec(alloc)?))
+}
+
+// A file with these patterns, each to the same backend.
+fn file_of(alloc: Global, patterns: &[&str]) -> Result<String, Fail> {
+    let mut text = String::from_str(
+        alloc,
+        "{\"listen\":\"127.0.0.1:8080\",\"workers\":1,\"routes\":[",
+    )?;
+    for (i, pattern) in patterns.iter().enumerate() {
+        if i > 0 {
+            text.push_str(",")?;
+        }
+        text.push_str("{\"pattern\":\"")?;
+        text.push_str(pattern)?;
+        text.push_str("\",\"backend\":\"http://127.0.0.1:9000\"}")?;
+    }
+    text.push_str("]}")?;
+    Ok(text)
+}
+
+// What `route` prints for a method and a path, with an empty host.
+fn routed(
+    alloc: Global,
+    patterns: &[&str],
+    method: &str,
+    path: &str,
+) -> Result<(u8, Vec<u8>), Fail> {
+    let file = file_of(alloc, patterns)?;
+    tells(
+        alloc,
+        &["route", "f", method, "", path],
+        file.as_str(),
+        true,
+    )
+}
+
+#[test]
+fn precedence(rt: HostRuntime) -> Result<(), Fail> {
+    let patterns = ["/items/{id}", "/items/latest"];
+    for (path, text) in [
+        ("/items/latest", "route 1 /items/latest\n"),
+        ("/items/7", "route 0 /items/{id}\nid=7\n"),
+        ("/items/7?a", "route 0 /items/{id}\nid=7\n"),
+        ("/items/%41b", "route 0 /items/{id}\nid=%41b\n"),
+        ("/other", "not found\n"),
+    ] {
+        let (status, printed) = routed(rt.alloc(), &patterns, "GET", path)?;
+        assert_eq!(rt; status, 0, "{path}");
+        assert_eq!(rt; printed.as_slice(), text.as_bytes(), "{path}");
+    }
+    let (_, printed) = routed(rt.alloc(), &["/{a}/x/{b...}", "/"], "GET", "/1/x/2/3")?;
+    assert_eq!(rt;
+        printed.as_slice(),
+        b"route 0 /{a}/x/{b...}\na=1\nb=2/3\n".as_slice()
+    );
+    Ok(())
+}
+
+#[test]
+fn conflict_is_named(rt: HostRuntime) -> Result<(), Fail> {
+    let alloc = rt.alloc();
+    let conflict = file_of(alloc, &["/posts/{id}", "/{resource}/latest"])?;
+    let good = file_of(alloc, &["/items/{id}", "/items/latest"])?;
+    for (file, prints, status, text) in [
+        (&conflict, true, 5, "conflict: route 0 and route 1\n"),
+        (&good, true, 0, "ok: 2 routes\n"),
+        (&conflict, false, 5, ""),
+        (&good, false, 9, ""),
+    ] {
+        let (said, printed) = tells(alloc, &["check", "f"], file.as_str(), prints)?;
+        assert_eq!(rt; said, status, "{text}");
+        assert_eq!(rt; printed.as_slice(), text.as_bytes(), "{text}");
+    }
+    Ok(())
+}
+
+#[test]
+fn head_matches_get(rt: HostRuntime) -> Result<(), Fail> {
+    let patterns = ["GET /a", "/a"];
+    for (method, text) in [
+        ("HEAD", "route 0 GET /a\n"),
+        ("GET", "route 0 GET /a\n"),
+        ("DELETE", "route 1 /a\n"),
+    ] {
+        let (status, printed) = routed(rt.alloc(), &patterns, method, "/a")?;
+        assert_eq!(rt; status, 0, "{method}");
+        assert_eq!(rt; printed.as_slice(), text.as_bytes(), "{method}");
+    }
+    let (status, printed) = routed(rt.alloc(), &["GET /a", "PUT /a"], "POST", "/a")?;
+    assert_eq!(rt; status, 0);
+    assert_eq!(rt;
+        printed.as_slice(),
+        b"not allowed GET, HEAD, PUT\n".as_slice()
+    );
+    Ok(())
+}
+
+#[test]
+fn end_mark_and_rest(rt: HostRuntime) -> Result<(), Fail> {
+    let patterns = ["/b/{$}", "/b/"];
+    for (path, text) in [
+        ("/b/", "route 0 /b/{$}\n"),
+        ("/b/c", "route 1 /b/\n"),
+        ("/b", "redirect /b/\n"),
+        ("/b//c?x=1", "redirect /b/c?x=1\n"),
+    ] {
+        let (status, printed) = routed(rt.alloc(), &patterns, "GET", path)?;
+        assert_eq!(rt; status, 0, "{path}");
+        assert_eq!(rt; printed.as_slice(), text.as_bytes(), "{path}");
+    }
+    Ok(())
+}
+
+#[test]
+fn bad_patterns(rt: HostRuntime) -> Result<(), Fail> {
+    let alloc = rt.alloc();
+    let empty = file_of(alloc, &[""])?;
+    let doubled = file_of(alloc, &["/a", "/a/{x}/{x}"])?;
+    let base =
+        "{\"listen\":\"127.0.0.1:8080\",\"routes\":[{\"pattern\":\"/\",\"backend\":\"http://127.0.0.1:9000/api\"}]}";
+    for (file, text) in [
+        (empty.as_str(), "bad routes: G6 route 0 P1 at 0\n"),
+        (doubled.as_str(), "bad routes: G6 route 1 P13 at 7\n"),
+        ("[", "bad routes: G1\n"),
+        ("{\"listen\":1}", "bad routes: G4\n"),
+        (base, "bad routes: G8 route 0\n"),
+    ] {
+        let (status, printed) = tells(alloc, &["check", "f"], file, true)?;
+        assert_eq!(rt; status, 4, "{text}");
+        assert_eq!(rt; printed.as_slice(), text.as_bytes(), "{text}");
+        let (status, printed) = tells(alloc, &["route", "f", "GET", "", "/"], file, true)?;
+        assert_eq!(rt; status, 4, "{text}");
+        assert_eq!(rt; printed.as_slice(), text.as_bytes(), "{text}");
+    }
+    let (status, printed) = tells(alloc, &["check", "other"], "[", true)?;
+    assert_eq!(rt; status, 3);
+    assert_eq!(rt; printed.as_slice(), b"cannot read other\n".as_slice());
+    Ok(())
+}
+
+// Whether the words are answered by the usage line and its status.
+fn is_usage(alloc: Global, words: &[&str]) -> Result<bool, Fail> {
+    let line =
+        b"usage: gateway serve ROUTES | check ROUTES | route ROUTES METHOD HOST PATH | drill SEED N\n";
+    let (status, printed) = tells(alloc, words, "[", true)?;
+    Ok(status == 2 && printed.as_slice() == line.as_slice())
+}
+
+/// Words that are no command's form.
+#[test]
+fn words_of_no_command(rt: HostRuntime) -> Result<(), Fail> {
+    let alloc = rt.alloc();
+    assert!(rt; is_usage(alloc, &[])?);
+    assert!(rt; is_usage(alloc, &["check"])?);
+    assert!(rt; is_usage(alloc, &["check", "f", "g"])?);
+    assert!(rt; is_usage(alloc, &["--help"])?);
+    assert!(rt; is_usage(alloc, &["serve", "f"])?);
+    assert!(rt; is_usage(alloc, &["route", "f", "GET", ""])?);
+    assert!(rt; is_usage(alloc, &["route", "f", "CONNECT", "", "/"])?);
+    assert!(rt; is_usage(alloc, &["route", "f", "", "", "/"])?);
+    assert!(rt; is_usage(alloc, &["route", "f", "G T", "", "/"])?);
+    assert!(rt; is_usage(alloc, &["route", "f", "GET", "", "a"])?);
+    assert!(rt; is_usage(alloc, &["route", "f", "GET", "", ""])?);
+    assert!(rt; is_usage(alloc, &["route", "f", "GET", "", "/a b"])?);
+    assert!(rt; is_usage(alloc, &["route", "f", "GET", "", "/a#b"])?);
+    assert!(rt; is_usage(alloc, &["route", "f", "GET", "", "/%4"])?);
+    Ok(())
+}
+
+// What the only client of a run was written.
+fn answered<R: Threads + Wait + Sync>(
+    rt: &R,
+    alloc: Global,
+    file: &str,
+    request: &[u8],
+) -> Result<Vec<u8>, Fail> {
+    let mut world = world(alloc, file.as_bytes(), wire(alloc, request, REPLY)?)?;
+    let words = words(alloc, &["serve", "routes.json"])?;
+    let report = run_gateway(rt, alloc, words.as_slice(), &mut world);
+    let mut text = Vec::new(alloc);
+    for worker in &report.workers {
+        for act in worker.wire.acts() {
+            if let Act::Wrote(1, piece) = act {
+                text.extend_from_slice(piece.as_slice())?;
+            }
+        }
+    }
+    Ok(text)
+}
+
+#[test]
+fn cleaning_redirects(rt: HostRuntime) -> Result<(), Fail> {
+    let alloc = rt.alloc();
+    let file = file_of(alloc, &["/zzz", "POST /post"])?;
+    for (line, text) in [
+        (
+            "GET /a//b/../c?x=1",
+            "HTTP/1.1 301 Moved Permanently\r\nConnection: close\r\nContent-Length: 0\r\nLocation: /a/c?x=1\r\n\r\n",
+        ),
+        (
+            "GET /q",
+            "HTTP/1.1 404 Not Found\r\nConnection: close\r\nContent-Length: 14\r\n\r\n404 Not Found\n",
+        ),
+        (
+            "GET /post",
+            "HTTP/1.1 405 Method Not Allowed\r\nAllow: POST\r\nConnection: close\r\nContent-Length: 23\r\n\r\n405 Method Not Allowed\n",
+        ),
+    ] {
+        let mut request = line.as_bytes().to_vec(alloc)?;
+        request.extend_from_slice(b" HTTP/1.1\r\nHost: a:80\r\n\r\n")?;
+        let said = answered(&rt, alloc, file.as_str(), &request)?;
+        assert_eq!(rt; said.as_slice(), text.as_bytes(), "{line}");
+    }
+    Ok(())
+}
+
+/// The host decides without its port, and each route has its own backend.
+#[test]
+fn hosts_and_backends(rt: HostRuntime) -> Result<(), Fail> {
+    let alloc = rt.alloc();
+    let file =
+        b"{\"listen\":\"127.0.0.1:8080\",\"routes\":[{\"pattern\":\"/\",\"backend\":\"http://127.0.0.1:9000\"},{\"pattern\":\"b.example/\",\"backend\":\"http://127.0.0.1:9001\"}]}";
+    for (host, number, port) in [("a.example", 0, 9_000), ("b.example:80", 1, 9_001)] {
+        let mut request = b"GET / HTTP/1.1\r\nHost: ".to_vec(alloc)?;
+        request.extend_from_slice(host.as_bytes())?;
+        request.extend_from_slice(b"\r\n\r\n")?;
+        let mut world = world(alloc, file, wire(alloc, &request, REPLY)?)?;
+        let words = words(alloc, &["serve", "routes.json"])?;
+        let report = run_gateway(&rt, alloc, words.as_slice(), &mut world);
+        assert_eq!(rt; report.status, 0);
+        let dials = match report.workers[0].wire.acts() {
+            [_, _, Act::Dialed(at, addr, 2), ..] => (*at, addr.port),
+            _ => (9, 9),
+        };
+        assert_eq!(rt; dials, (number, port), "{host}");
+        match report.journal.as_slice() {
+            [want, ..] => match &want.call {
+                Call::Want { host, now: _ } => assert_eq!(rt; *host, number),
+                _ => panic!(rt; "another call"),
+            },
+            _ => panic!(rt; "no entry"),
+        }
+    }
+    Ok(())
+}
+
+/// A head that fails a check gets the reply of its code.
+#[test]
+fn length_and_coding(rt: HostRuntime) -> Result<(), Fail> {
+    let alloc = rt.alloc();
+    let bad =
+        "HTTP/1.1 400 Bad Request\r\nConnection: close\r\nContent-Length: 16\r\n\r\n400 Bad Request\n";
+    let coding =
+        "HTTP/1.1 501 Not Implemented\r\nConnection: close\r\nContent-Length: 20\r\n\r\n501 Not Implemented\n";
+    let file = file_of(alloc, &["/"])?;
+    for (head, text) in [
+        (
+            "POST / HTTP/1.1\r\nHost: a\r\nContent-Length: 3\r\nTransfer-Encoding: chunked\r\n\r\nGET / HTTP/1.1\r\nHost: a\r\n\r\n",
+            bad,
+        ),
+        ("GET / HTTP/1.1\r\n\r\n", bad),
+        ("GET /%zz HTTP/1.1\r\nHost: a\r\n\r\n", bad),
+        ("GET /\r\nHost: a\r\n\r\n", bad),
+        ("CONNECT a:1 HTTP/1.1\r\nHost: a\r\n\r\n", coding),
+        (
+            "GET / HTTP/1.1\r\nHost: a\r\nTransfer-Encoding: gzip\r\n\r\n",
+            coding,
+        ),
+        (
+            "GET / HTTP/1.1\r\nHost: a\r\nExpect: gift\r\n\r\n",
+            "HTTP/1.1 417 Expectation Failed\r\nConnection: close\r\nContent-Length: 23\r\n\r\n417 Expectation Failed\n",
+        ),
+        (
+            "GET / HTTP/2.0\r\nHost: a\r\n\r\n",
+            "HTTP/1.1 505 HTTP Version Not Supported\r\nConnection: close\r\nContent-Length: 31\r\n\r\n505 HTTP Version Not Supported\n",
+        ),
+    ] {
+        let said = answered(&rt, alloc, file.as_str(), head.as_bytes())?;
+        assert_eq!(rt; said.as_slice(), text.as_bytes(), "{head}");
+    }
+    Ok(())
+}
+
+/// A head has 65,536 bytes at most.
+#[test]
+fn largest_head(rt: HostRuntime) -> Result<(), Fail> {
+    let alloc = rt.alloc();
+    let file = file_of(alloc, &["/"])?;
+    let refused =
+        b"HTTP/1.1 431 Request Header Fields Too Large\r\nConnection: close\r\nContent-Length: 36\r\n\r\n431 Request Header Fields Too Large\n";
+    for (letters, text) in [(65_504, REPLY), (65_505, refused.as_slice())] {
+        let mut head = b"GET / HTTP/1.1\r\nHost: a\r\nX: ".to_vec(alloc)?;
+        for _ in 0..letters {
+            head.push(b'x')?;
+        }
+        head.extend_from_slice(b"\r\n\r\n")?;
+        let said = answered(&rt, alloc, file.as_str(), &head)?;
+        assert_eq!(rt; said.as_slice(), text, "{letters}");
+    }
+    Ok(())
+}
+
 #[test]
 fn nothing_to_listen_on(rt: HostRuntime) -> Result<(), Fail> {
     let alloc = rt.alloc();

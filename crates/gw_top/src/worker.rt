@@ -2,12 +2,15 @@
 
 ghost use Rattle.std.specs.Prelude.{◌≡◌, ◌<◌, length, true, false};
 ghost use Rattle.gw_wire.specs.Causes.{Rose};
+ghost use Rattle.gw_routes.specs.Files.{AreNumbered};
 ghost use Rattle.gw_top.specs.Leased.{IsVacant};
 ghost use Rattle.gw_top.specs.Run.{Worked};
 
 use crate::exchange::serve;
+use gw_head::HeadReader;
 use gw_pool::Leases;
-use gw_wire::{Accept, Addr, Wire};
+use gw_routes::Table;
+use gw_wire::{Accept, Wire};
 use std::alloc::Global;
 use std::sync::Wait;
 
@@ -30,15 +33,18 @@ pub fn work<R: Wait, W: Wire, L: Leases<W::Conn>>(
     alloc: Global,
     worker: &mut Worker<W>,
     leases: &mut L,
-    backend: &Addr,
+    table: &Table,
+    reader: &mut HeadReader,
     buf: &mut [u8],
 )
     requires fresh { (W.wire worker.old.wire).aged ≡ false }
     requires room { 0 < length buf.old }
     requires vacant { IsVacant (L.lent leases.old) }
+    requires numbered { AreNumbered table.now }
+    requires hosts { (L.lent leases.old).limits.hosts ≡ length table.now.hosts.items }
     requires serving { worker.old.accept_failed ≡ false }
     requires none { worker.old.entered ≡ 0 }
-    ensures worked { Worked (W.wire worker.old.wire) (W.wire worker.new.wire) (L.lent leases.old) (L.lent leases.new) backend.now
+    ensures worked { Worked (W.wire worker.old.wire) (W.wire worker.new.wire) (L.lent leases.old) (L.lent leases.new) table.now
         worker.new.entered worker.new.accept_failed }
     ensures number { worker.new.number ≡ worker.old.number }
     ensures failed { worker.new.accept_failed ≡ true
@@ -47,7 +53,7 @@ pub fn work<R: Wait, W: Wire, L: Leases<W::Conn>>(
     for _client in rt.forever() {
         match worker.wire.accept() {
             Accept::Conn(client, _peer) => {
-                let began = serve(alloc, client, &mut worker.wire, leases, backend, buf);
+                let began = serve(alloc, client, &mut worker.wire, leases, table, reader, buf);
                 worker.entered = worker.entered.saturating_add(u64::from(began));
             }
             Accept::Tick => {}

@@ -1,8 +1,8 @@
-use Rattle.std.proofs.Common.{◌≤◌, ◌<◌, ◌++◌, ◌∙◌, refl, inl, inr, length, take}
+use Rattle.std.proofs.Common.{sym, ◌≤◌, ◌<◌, ◌++◌, ◌∙◌, refl, inl, inr, length, take}
 use Rattle.std.proofs.lemmas.List.{length-take-le}
 use Rattle.gw_head.proofs.FeedLemmas.{brought}
 use Rattle.gw_head.specs.Head.{ReplyHeadOf, BadReplyHead}
-use Rattle.gw_top.proofs.AttemptLemmas.{refusal_heard, want_heard, broken_heard, late_heard, body_heard, came_with}
+use Rattle.gw_top.proofs.AttemptLemmas.{refusal_heard, other_heard, want_heard, broken_heard, late_heard, body_heard, came_with}
 use Rattle.gw_top.proofs.HearLemmas.{piece_heard, more_heard, goes_on}
 use Rattle.gw_top.proofs.attempt.hear_reply.Goals as goal
 
@@ -32,15 +32,22 @@ returns-in-NoMemory-clause-log g c =
     let i = c.loop-piece.invariant in
     want_heard _ _ _ _ (piece_heard _ _ _ _ _ _ _ _ _ _ i.0.link.number i.1.2 c.in-Got.ensures)
 
-pub returns-in-Head-clause-log : goal.returns-in-Head-clause-log
-returns-in-Head-clause-log g c =
+pub returns-in-None-clause-log : goal.returns-in-None-clause-log
+returns-in-None-clause-log g c =
+    let i = c.loop-piece.invariant in
+    let brings = brought ReplyHeadOf BadReplyHead _ _ _ i.1.0 _ _ i.1.1 c.in-Head.is c.feed_reply-fed.ensures in
+    other_heard _ _ _ _ _ _ c.in-Head.head _ (piece_heard _ _ _ _ _ _ _ _ _ _ i.0.link.number i.1.2 c.in-Got.ensures) brings
+    (sym (rw c.in-Head.head-is at c.plain_length.ensures) ∙ c.in-None.is)
+
+pub returns-in-Some-clause-log : goal.returns-in-Some-clause-log
+returns-in-Some-clause-log g c =
     let i = c.loop-piece.invariant in
     let brings = brought ReplyHeadOf BadReplyHead _ _ _ i.1.0 _ _ i.1.1 c.in-Head.is c.feed_reply-fed.ensures in
     let number = c.in-Got.ensures.link.number ∙ i.0.link.number in
     let within : c.feed_reply-fed.result.used ≤ c.in-Got.n = rw (length-take-le c.in-Got.n c.hear.new.buf c.in-Got.ensures.cause.1) at brings.ends.within in
-    body_heard _ _ _ _ c.feed_reply-fed.result.used i.1.0 (take c.in-Got.n c.hear.new.buf) _ c.in-Head.head _ c.hear_body.result
-    (came_with c.feed_reply-fed.result.used c.in-Got.n c.hear.new.buf within)
-    (piece_heard _ _ _ _ _ _ _ _ _ _ i.0.link.number i.1.2 c.in-Got.ensures) brings (rw (← number) (rw c.in-Head.head-is at c.hear_body.ensures.log))
+    body_heard _ _ _ _ c.feed_reply-fed.result.used c.in-Some.count i.1.0 (take c.in-Got.n c.hear.new.buf) _ _ c.in-Head.head _ c.hear_body.result
+    (came_with c.feed_reply-fed.result.used c.in-Got.n c.hear.new.buf within) c.bytes.ensures (sym (rw c.in-Head.head-is at c.plain_length.ensures) ∙ c.in-Some.is)
+    (piece_heard _ _ _ _ _ _ _ _ _ _ i.0.link.number i.1.2 c.in-Got.ensures) brings (rw (← number) c.hear_body.ensures.log)
 
 pub hear_body-requires-clause-ordered : goal.hear_body-requires-clause-ordered
 hear_body-requires-clause-ordered g c =

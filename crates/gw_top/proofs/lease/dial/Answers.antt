@@ -25,9 +25,9 @@ unreachable-requires-in-NotYet-ask g c = waiting_ended _ _ _ _ c.args.ticket _ _
 
 pub returns-in-Taken : goal.returns-in-Taken
 returns-in-Taken g c =
-    dial_done g.W.Conn.Link.link _ _ _ _ _ _ _ _ c.args.ticket c.in-Go.token c.in-Conn.conn c.now-now.result c.dialed.result c.in-Taken.lease c.requires.granted c.in-Go.ensures c.in-Conn.ensures c.now-now.ensures
+    dial_done g.W.Conn.Link.link _ _ _ _ _ _ _ _ _ c.args.ticket c.in-Go.token c.in-Conn.conn c.now-now.result c.dialed.result c.in-Taken.lease c.requires.granted c.in-Go.ensures c.in-Conn.ensures c.now-now.ensures
     c.dialed.ensures c.in-Taken.ensures
 
 pub returns-in-Failed-ask-2 : goal.returns-in-Failed-ask-2
 returns-in-Failed-ask-2 g c =
-    failure_done g.W.Conn.Link.link _ _ _ _ _ _ _ c.args.ticket c.in-Go.token c.requires.fresh c.requires.granted c.in-Go.ensures c.in-Failed.ensures c.dial_failed.ensures c.in-Failed-ask-2.ensures
+    failure_done g.W.Conn.Link.link _ _ _ _ _ _ _ _ c.args.ticket c.in-Go.token c.requires.fresh c.requires.granted c.in-Go.ensures c.in-Failed.ensures c.dial_failed.ensures c.in-Failed-ask-2.ensures

@@ -1,12 +1,12 @@
-use Rattle.std.proofs.Common.{inl, inr}
+use Rattle.std.proofs.Common.{inl, inr, sym, ap, ◌∙◌}
 use Rattle.gw_top.proofs.RunLemmas.{given_first}
 use Rattle.gw_top.proofs.TopLemmas.{served, unheard_ends, refuses_behind, closes_of}
-use Rattle.gw_top.specs.Status.{memory_line}
+use Rattle.gw_top.specs.Lines.{memory_line}
 use Rattle.gw_top.proofs.run.listen_and_serve.Goals as goal
 
 pub returns-in-Failed : goal.returns-in-Failed
 returns-in-Failed g c =
-    unheard_ends g.H.Wire.Wire.wire _ _ _ _ _ c.cannot_listen.result c.in-Failed.ensures.later c.in-Failed.ensures.printed c.in-Failed.ensures.cause.0 c.cannot_listen.ensures
+    unheard_ends g.H.Wire.Wire.wire _ _ _ c.args.setup.table c.cannot_listen.result c.in-Failed.ensures.later c.in-Failed.ensures.printed c.in-Failed.ensures.cause.0 c.cannot_listen.ensures
 
 pub returns-in-NoMemory : goal.returns-in-NoMemory
 returns-in-NoMemory g c = inr (inr (refuses_behind _ _ _ 7 memory_line c.refuse.result c.in-NoMemory.ensures.later c.in-NoMemory.ensures.printed c.refuse.ensures))
@@ -15,6 +15,9 @@ pub work-requires-clause-fresh : goal.work-requires-clause-fresh
 work-requires-clause-fresh g c =
     λ ks lives. (given_first _ g.H.Wire.Wire.wire c.in-Wires.wires.items c.first-wire.result c.first-wire.ensures c.in-Wires.ensures.cause.1).fresh.aged
 
+pub work-requires-clause-hosts : goal.work-requires-clause-hosts
+work-requires-clause-hosts g c = λ ks lives. ap (λ l. l.hosts) c.requires.limits ∙ c.requires.numbered.pooled
+
 pub returns-in_default : goal.returns-in_default
 returns-in_default g c = inr (inr (refuses_behind _ _ _ 7 memory_line c.refuse-in_default.result c.in-Wires.ensures.later c.in-Wires.ensures.printed c.refuse-in_default.ensures))
 
@@ -22,7 +25,7 @@ pub returns : goal.returns
 returns g c =
     let given = given_first _ g.H.Wire.Wire.wire c.in-Wires.wires.items c.first-wire.result c.first-wire.ensures c.in-Wires.ensures.cause.1 in
     let link = g.H.Wire.Conn.Link.link in
-    inl (served g.H.Wire.Wire.wire _ _ _ c.args.setup.table _ c.args.setup.backend _ _ c.args.setup.pool _ _ _ _ c.finish.result c.requires.table c.requires.limits c.requires.seen
+    inl (served g.H.Wire.Wire.wire _ _ _ c.args.setup.table _ _ c.args.setup.pool _ _ _ _ c.finish.result c.requires.limits c.requires.seen
     c.in-Wires.ensures.later c.in-Wires.ensures.printed c.in-Wires.ensures.cause.2 given c.work.ensures.worked c.work.ensures.failed c.work.ensures.number
     c.in-Ok.ensures.journal c.in-Ok.ensures.legal c.in-Ok.ensures.callers c.close_all.ensures.later c.close_all.ensures.log
     (closes_of (λ x. (link x).number) c.in-Ok.field-0.idle.items _ c.in-Ok.ensures.idle) c.finish.ensures)

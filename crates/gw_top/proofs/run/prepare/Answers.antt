@@ -1,21 +1,17 @@
-use Rattle.std.proofs.Common.{◌++◌, ◌∷◌, [], refl, ap, ◌∙◌, arith}
+use Rattle.std.proofs.Common.{◌≡◌, arith, ◌∙◌}
 use Rattle.gw_top.proofs.PoolLemmas.{vacant_opened}
 use Rattle.gw_top.proofs.run.prepare.Goals as goal
 
 pub returns-clause-ready : goal.returns-clause-ready
 returns-clause-ready g c =
-    let opened = c.in_ok-open.ensures in
+    let made = c.in_ok-pool.ensures in
+    let alone : c.args.table.limits.passes ≡ 1 = (let p = c.requires.passes in let l = c.requires.least in let m = c.requires.most in omega arith) in
     record {
-      table = record {
-        listens = refl;
-        workers = refl;
-        limits = refl;
-        hosts = c.in_ok-push.ensures.items ∙ ap (λ l. l ++ c.args.backend ∷ []) c.in_ok-hosts.ensures.items;
-      };
-      limits = opened.limits;
-      vacant = vacant_opened c.in_ok-open.field-0 opened.seen opened.out opened.number opened.limits;
-      seen = opened.seen;
-      mine = opened.mine;
+      numbered = c.requires;
+      limits = made.limits;
+      vacant = vacant_opened c.in_ok-pool.pool c.args.table.limits made.seen made.out made.number made.limits alone (let o = c.requires.one in omega arith);
+      seen = made.seen;
+      mine = made.mine;
       room = omega (arith, c.in_ok-vec.ensures.len);
       nobody = c.in_ok-with_capacity.ensures.items;
       place = omega (arith, c.in_ok-with_capacity.ensures.exact);

@@ -1,22 +1,18 @@
 use Rattle.std.proofs.Common.{refl}
-use Rattle.gw_top.proofs.TopLemmas.{ran_unreadable, ran_refused, ran_on, ran_out}
+use Rattle.gw_top.proofs.TopLemmas.{ran_stopped, ran_on, ran_out}
 use Rattle.gw_top.proofs.run.run_gateway.Goals as goal
 
-pub returns-in-Failed : goal.returns-in-Failed
-returns-in-Failed g c =
-    ran_unreadable g.H.Wire.Wire.wire _ _ _ c.args.words.now c.in-Some.name.now c.cannot_read.result (c.in-Some.ensures.form.0 refl) c.in-Some.ensures.name c.in-Failed.ensures c.cannot_read.ensures
+pub returns-in-Err : goal.returns-in-Err
+returns-in-Err g c =
+    ran_stopped g.H.Wire.Wire.wire _ _ c.args.words.now c.in-Some.name.now c.in-Err.status c.stopped.result (c.in-Some.ensures.form.0 refl) c.in-Some.ensures.name
+    c.in-Err.ensures c.stopped.ensures.status (record { table = c.stopped.ensures.table; journal = c.stopped.ensures.journal; workers = c.stopped.ensures.workers })
 
-pub returns-in_default-read_addresses : goal.returns-in_default-read_addresses
-returns-in_default-read_addresses g c =
-    ran_refused g.H.Wire.Wire.wire _ _ _ c.args.words.now c.in-Some.name.now c.in-Bytes.file.items c.refuse-in_default-read_addresses.result (c.in-Some.ensures.form.0 refl) c.in-Some.ensures.name
-    c.in-Bytes.ensures.later c.in-Bytes.ensures.printed c.in-Bytes.ensures.cause (rw c.as_slice.ensures.value at c.in_default-read_addresses.ensures) c.refuse-in_default-read_addresses.ensures
+pub returns-in-Ok-prepare : goal.returns-in-Ok-prepare
+returns-in-Ok-prepare g c =
+    ran_on g.H.Wire.Wire.wire _ _ _ c.args.words.now c.in-Some.name.now c.in-Ok.table c.in-Ok-prepare.setup.table c.listen_and_serve.result (c.in-Some.ensures.form.0 refl) c.in-Some.ensures.name
+    c.in-Ok.ensures c.in-Ok-prepare.ensures.serves c.listen_and_serve.ensures
 
-pub returns-in-Ok : goal.returns-in-Ok
-returns-in-Ok g c =
-    ran_on g.H.Wire.Wire.wire _ _ _ c.args.words.now c.in-Some.name.now c.in-Bytes.file.items c.in-Some-read_addresses.listen c.in-Some-read_addresses.backend c.in-Ok.setup.table.listen c.in-Ok.setup.backend
-    c.listen_and_serve.result (c.in-Some.ensures.form.0 refl) c.in-Some.ensures.name c.in-Bytes.ensures.later c.in-Bytes.ensures.printed c.in-Bytes.ensures.cause
-    (rw c.as_slice.ensures.value at c.in-Some-read_addresses.ensures) c.in-Ok.ensures.listens c.in-Ok.ensures.leads c.listen_and_serve.ensures
-
-pub returns : goal.returns
-returns g c =
-    ran_out g.H.Wire.Wire.wire _ _ _ c.args.words.now c.refuse-in-Err.result (c.in-Some.ensures.form.0 refl) c.in-Bytes.ensures.later c.in-Bytes.ensures.printed c.refuse-in-Err.ensures
+pub returns-in-Err-prepare : goal.returns-in-Err-prepare
+returns-in-Err-prepare g c =
+    ran_out g.H.Wire.Wire.wire _ _ _ c.args.words.now c.in-Some.name.now c.in-Ok.table c.refuse-in-Err-prepare.result (c.in-Some.ensures.form.0 refl) c.in-Some.ensures.name
+    c.in-Ok.ensures c.refuse-in-Err-prepare.ensures

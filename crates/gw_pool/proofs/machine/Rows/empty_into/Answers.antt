@@ -1,5 +1,5 @@
 -- One more idle connection was moved.
-use Rattle.std.proofs.Common.{◌≡◌, ◌∷◌, ◌++◌, [], map, ap, sym, ◌∙◌, arith}
+use Rattle.std.proofs.Common.{◌∷◌, [], map, ap, sym, ◌∙◌, arith}
 use Rattle.std.proofs.lemmas.List.{map-append}
 use Rattle.gw_pool.specs.Rows.{state_of}
 use Rattle.gw_pool.specs.Shelf.{resting_row}

@@ -3,7 +3,7 @@ use Rattle.std.proofs.Common.{sym, ◌∙◌, ap}
 use Rattle.std.specs.List.{position}
 use Rattle.gw_pool.specs.State.{rests_since_stamp}
 use Rattle.gw_pool.proofs.Edits.{found_passes}
-use Rattle.gw_pool.proofs.Shelves.{stamped_has, one_less}
+use Rattle.gw_pool.proofs.Shelves.{stamped_has, one_less, none_same}
 use Rattle.gw_pool.proofs.machine.Rows.take_oldest.Goals as goal
 
 pub with_conn-requires : goal.with_conn-requires
@@ -19,3 +19,6 @@ returns-in-Some-clause-fewer g c =
     one_less (rests_since_stamp c.in-Some.stamp) c.args.self.now.conns.rows c.take.new.self.rows c.with_conn.result
     (c.with_conn.ensures.row ∙ c.take.ensures.found (rests_since_stamp c.in-Some.stamp) at)
     (c.take.ensures.left (rests_since_stamp c.in-Some.stamp) at)
+
+pub returns-in-Some-clause-same : goal.returns-in-Some-clause-same
+returns-in-Some-clause-same g c = none_same c.with_conn.result c.take.result _ _ c.with_conn.ensures.row c.take.ensures.none (λ e. rw e)

@@ -1,8 +1,0 @@
-use Rattle.std.proofs.Common.{◌≡◌, length}
-use Rattle.std.specs.List.{All}
-use Rattle.gw_wire.specs.World.{IsAlone}
-use Rattle.gateway.specs.TcpView.{tcp_view}
-use Rattle.gateway.proofs.tcp_world.make_wires.Given as goal
-
-abbrev pub invariant-loop-worker : goal.invariant-loop-worker
-invariant-loop-worker g l = (length l.wires.items ≡ l.worker) × All (λ wire. IsAlone (tcp_view wire)) l.wires.items

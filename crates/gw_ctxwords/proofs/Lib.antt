@@ -1,0 +1,9 @@
+pub mod Climbing
+pub mod Codes
+pub mod Ending
+pub mod Handing
+pub mod Keeping
+pub mod Members
+pub mod Rooms
+pub mod Trees
+pub mod WorkedNodes

@@ -1,0 +1,5 @@
+pub mod Calls
+pub mod Nodes
+pub mod Rule
+pub mod Steps
+pub mod Words

@@ -1,0 +1,10 @@
+use Rattle.std.proofs.Common.{◌≡◌, ◌++◌, drop, map}
+use Rattle.gw_fields.specs.Lines.{pair_of, values_text, StartsWith}
+use Rattle.gw_fields.proofs.lines.Lines.write_values.Given as goal
+
+-- what was written, and what is still to be written
+abbrev pub invariant-loop-line : goal.invariant-loop-line
+invariant-loop-line l =
+    (l.out.items ++ values_text l.name (map pair_of (drop l.line-index l.line-items))
+    ≡ l.initial.out.items ++ values_text l.name (map pair_of l.line-items))
+    × StartsWith l.initial.out.items l.out.items

@@ -1,0 +1,5 @@
+pub mod Bits
+pub mod Handing
+pub mod Keeping
+pub mod Sums
+pub mod Words

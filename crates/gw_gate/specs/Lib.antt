@@ -1,0 +1,4 @@
+pub mod Calls
+pub mod Gate
+pub mod Seat
+pub mod Steps

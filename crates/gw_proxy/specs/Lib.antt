@@ -1,0 +1,6 @@
+pub mod Date
+pub mod Laws
+pub mod Lines
+pub mod OutReply
+pub mod OutRequest
+pub mod Texts

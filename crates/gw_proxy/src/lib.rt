@@ -1,0 +1,23 @@
+//! What the gateway sends: the heads of requests to backends, the heads of replies to clients, and the replies that it
+//! gives by itself. Each is a function of what came in, byte for byte.
+#![tactic(auto)]
+
+mod date;
+mod laws;
+mod lines;
+mod own;
+mod reply;
+mod request;
+mod status;
+mod target;
+
+pub use laws::one_date_at_a_moment;
+pub use own::{Own, own_reply};
+pub use reply::{out_reply_head, sent_framing};
+pub use request::{OutHead, out_request};
+
+/// The want of memory.
+pub type NoMemory = std::alloc::AllocError;
+
+#[cfg(test)]
+mod tests;
