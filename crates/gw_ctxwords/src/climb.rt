@@ -23,7 +23,7 @@ fn above(nodes: &[NodeSpec], node: u32) -> Option<u32>
     }
 }
 
-// The first node that has ended on the way up, and its cause.
+/// The first node that has ended on the way up, and its cause.
 pub(crate) fn climb(
     nodes: &[NodeSpec],
     words: &Words,
@@ -48,7 +48,7 @@ pub(crate) fn climb(
     }
 }
 
-// Ends a node for the cause of one above it, and gives the cause that the node ended for.
+/// Ends a node for the cause of one above it, and gives the cause that the node ended for.
 pub(crate) fn settled(
     words: &Words,
     place: &mut Place,

@@ -16,7 +16,7 @@ pub struct NodeSpec {
 // The word of a node that hasn't ended.
 pub(crate) const LIVE: u64 = 0;
 
-// The word of a node that ended.
+/// The word of a node that ended.
 pub(crate) fn word_of(cause: Cause) -> u64
     ensures { result ≡ word_of cause }
 {
@@ -26,7 +26,7 @@ pub(crate) fn word_of(cause: Cause) -> u64
     }
 }
 
-// The cause in a word that isn't `LIVE`.
+/// The cause in a word that isn't `LIVE`.
 pub(crate) fn cause_of(word: u64) -> Cause
     ensures { result ≡ cause_of word }
 {

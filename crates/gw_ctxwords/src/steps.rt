@@ -59,7 +59,7 @@ impl Join<CtxView> for Joining {
     ghost spent = { spent };
 }
 
-// Reads a node's word. Each step gives the word before it.
+/// Reads a node's word. Each step gives the word before it.
 pub(crate) fn load(words: &Words, place: &mut Place, node: u32) -> u64
     requires seat { IsAt words.now.key.items words.now.table_id place.old }
     requires node { node < length words.now.key.items }
@@ -69,7 +69,7 @@ pub(crate) fn load(words: &Words, place: &mut Place, node: u32) -> u64
     words.load::<Loading>(place, node as usize)
 }
 
-// Ends a node that is live.
+/// Ends a node that is live.
 pub(crate) fn cancel(words: &Words, place: &mut Place, node: u32, cause: Cause) -> u64
     requires seat { IsAt words.now.key.items words.now.table_id place.old }
     requires node { node < length words.now.key.items }
@@ -79,7 +79,7 @@ pub(crate) fn cancel(words: &Words, place: &mut Place, node: u32, cause: Cause) 
     words.compare_exchange::<Cancelling>(place, node as usize, LIVE, word_of(cause))
 }
 
-// Ends a node that is live, for the cause of a node above it.
+/// Ends a node that is live, for the cause of a node above it.
 pub(crate) fn settle(words: &Words, place: &mut Place, node: u32, above: u32, cause: Cause) -> u64
     requires seat { IsAt words.now.key.items words.now.table_id place.old }
     requires node { node < length words.now.key.items }
@@ -90,7 +90,7 @@ pub(crate) fn settle(words: &Words, place: &mut Place, node: u32, above: u32, ca
     words.compare_exchange::<Settling>(place, node as usize, LIVE, word_of(cause))
 }
 
-// Cuts a seat in two.
+/// Cuts a seat in two.
 pub(crate) fn split(words: &Words, place: &mut Place) -> Place
     requires seat { IsAt words.now.key.items words.now.table_id place.old }
     requires some { 0 < length words.now.key.items }
@@ -102,7 +102,7 @@ pub(crate) fn split(words: &Words, place: &mut Place) -> Place
     words.split_seat::<Splitting>(place)
 }
 
-// Makes two seats one.
+/// Makes two seats one.
 pub(crate) fn join(words: &Words, place: &mut Place, other: Place)
     requires seats { IsAt words.now.key.items words.now.table_id place.old × IsAt words.now.key.items words.now.table_id other }
     requires some { 0 < length words.now.key.items }

@@ -69,7 +69,7 @@ impl Join<GateView> for Joining {
     ghost spent = { spent };
 }
 
-// Counts a seat in. Each step gives the word before it.
+/// Counts a seat in. Each step gives the word before it.
 pub(crate) fn enter(words: &Words, place: &mut Place) -> u64
     requires seat { IsAt words.now.table_id place.old }
     requires out { (place.old.me.0.held ≡ false) × (place.old.me.0.undoing ≡ false) }
@@ -79,7 +79,7 @@ pub(crate) fn enter(words: &Words, place: &mut Place) -> u64
     words.fetch_add::<Entering>(place, 0, 1)
 }
 
-// Counts a seat out that is inside.
+/// Counts a seat out that is inside.
 pub(crate) fn leave(words: &Words, place: &mut Place) -> u64
     requires seat { IsAt words.now.table_id place.old }
     requires inside { (place.old.me.0.held ≡ true) × (place.old.me.0.undoing ≡ false) }
@@ -89,7 +89,7 @@ pub(crate) fn leave(words: &Words, place: &mut Place) -> u64
     words.fetch_sub::<Leaving>(place, 0, 1)
 }
 
-// Counts a seat out whose `enter` was refused.
+/// Counts a seat out whose `enter` was refused.
 pub(crate) fn undo(words: &Words, place: &mut Place) -> u64
     requires seat { IsAt words.now.table_id place.old }
     requires refused { (place.old.me.0.held ≡ false) × (place.old.me.0.undoing ≡ true) }
@@ -99,7 +99,7 @@ pub(crate) fn undo(words: &Words, place: &mut Place) -> u64
     words.fetch_sub::<Undoing>(place, 0, 1)
 }
 
-// Sets the bit.
+/// Sets the bit.
 pub(crate) fn shut(words: &Words, place: &mut Place) -> u64
     requires { IsAt words.now.table_id place.old }
     ensures same { IsSame place.old place.new }
@@ -108,7 +108,7 @@ pub(crate) fn shut(words: &Words, place: &mut Place) -> u64
     words.fetch_or::<Shutting>(place, 0, SHUT)
 }
 
-// Reads the word.
+/// Reads the word.
 pub(crate) fn load(words: &Words, place: &mut Place) -> u64
     requires { IsAt words.now.table_id place.old }
     ensures same { IsSame place.old place.new }
@@ -117,7 +117,7 @@ pub(crate) fn load(words: &Words, place: &mut Place) -> u64
     words.load::<Loading>(place, 0)
 }
 
-// Cuts a seat in two.
+/// Cuts a seat in two.
 pub(crate) fn split(words: &Words, place: &mut Place) -> Place
     requires seat { IsAt words.now.table_id place.old }
     requires room { 1 < place.old.me.0.room }
@@ -128,7 +128,7 @@ pub(crate) fn split(words: &Words, place: &mut Place) -> Place
     words.split_seat::<Splitting>(place)
 }
 
-// Makes two seats one.
+/// Makes two seats one.
 pub(crate) fn join(words: &Words, place: &mut Place, other: Place)
     requires seats { IsAt words.now.table_id place.old × IsAt words.now.table_id other }
     requires out { (other.me.0.held ≡ false) × (other.me.0.undoing ≡ false) }

@@ -22,8 +22,8 @@ pub enum Own {
     Moved(Bytes),
     /// 405 with the methods that are allowed, in this order.
     NotAllowed(Vec<Method>),
-    /// This code and no more: 200, 400, 404, 405, 417, 431 or 501 to 505. The 405 that names its methods (RFC
-    /// 9110, section 15.5.6) is `NotAllowed`.
+    /// This code and no more: 200, 400, 404, 405, 417, 431 or 501 to 505. A 405 that names its methods, as
+    /// RFC 9110, section 15.5.6 wants it, is `NotAllowed`.
     Plain(u16),
 }
 
