@@ -1,15 +1,33 @@
-"""A backend to try the gateway with: it answers every GET with its port and the path that was asked for."""
+"""A backend to try the gateway with: it answers with its port, what was asked for, and how many bytes came along."""
 
 import http.server
 import sys
 
 
 class Backend(http.server.BaseHTTPRequestHandler):
-    # until heads are written anew the gateway takes replies of HTTP/1.1 with one length alone
     protocol_version = "HTTP/1.1"
 
     def do_GET(self):
-        body = f"hello from backend {self.server.server_port}: {self.path}\n".encode()
+        self.answer(f"hello from backend {self.server.server_port}: {self.path}\n")
+
+    def do_POST(self):
+        count = len(self.chunks() if "chunked" in self.headers.get("Transfer-Encoding", "") else self.counted())
+        self.answer(f"backend {self.server.server_port} took {count} bytes: {self.path}\n")
+
+    def counted(self):
+        return self.rfile.read(int(self.headers.get("Content-Length", 0)))
+
+    def chunks(self):
+        taken = b""
+        while size := int(self.rfile.readline().split(b";")[0], 16):
+            taken += self.rfile.read(size)
+            self.rfile.readline()
+        while self.rfile.readline().strip():
+            pass
+        return taken
+
+    def answer(self, text):
+        body = text.encode()
         self.send_response(200)
         self.send_header("Content-Type", "text/plain")
         self.send_header("Content-Length", str(len(body)))

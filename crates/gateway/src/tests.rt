@@ -16,9 +16,24 @@ use std::test::Fail;
 use std::thread::join;
 use std::time::Duration;
 
-const GET: &[u8] = b"GET /hello?x=1 HTTP/1.1\r\nHost: example.com\r\n\r\n";
+// Two requests behind one another; the second ends the connection.
+const GETS: &[u8] =
+    b"GET /none HTTP/1.1\r\nHost: example.com\r\n\r\nGET /hello?x=1 HTTP/1.1\r\nHost: example.com\r\nConnection: close\r\n\r\n";
+
+// What the backend gets of the second.
+const PASSED_GET: &[u8] =
+    b"GET /hello?x=1 HTTP/1.1\r\nHost: example.com\r\nX-Forwarded-For: 127.0.0.1\r\n\r\n";
 
 const REPLY: &[u8] = b"HTTP/1.1 200 OK\r\nContent-Length: 3\r\n\r\nhi\n";
+
+// How the replies to the two begin and end; between are their dates.
+const BEGIN: &[u8] = b"HTTP/1.1 404 Not Found\r\nContent-Length: 14\r\nDate: ";
+const MIDDLE: &[u8] =
+    b" GMT\r\n\r\n404 Not Found\nHTTP/1.1 200 OK\r\nConnection: close\r\nContent-Length: 3\r\nDate: ";
+const END: &[u8] = b" GMT\r\n\r\nhi\n";
+
+// How many bytes a date has before its zone.
+const DATE: usize = 25;
 
 // A port that the system chooses.
 const ANY_PORT: Addr = Addr {
@@ -36,7 +51,7 @@ const ACCEPTS: u32 = 50;
 // More bytes than either side should get.
 const MOST: u64 = 4_096;
 
-// Sends the request, and reads what comes until the gateway ends the connection.
+// Sends the requests, and reads what comes until the gateway ends the connection.
 fn ask<R: Net<Listener = TcpListener, Stream = TcpStream>>(
     rt: &R,
     alloc: Global,
@@ -44,18 +59,18 @@ fn ask<R: Net<Listener = TcpListener, Stream = TcpStream>>(
 ) -> io::Result<Vec<u8>> {
     let mut stream = TcpStream::connect(rt, gateway)?;
     stream.set_read_timeout(Some(Duration::from_secs(PATIENCE_S)))?;
-    stream.write_all(GET)?;
+    stream.write_all(GETS)?;
     let mut heard = Vec::new(alloc);
     stream.take(MOST).read_to_end(&mut heard)?;
     Ok(heard)
 }
 
-// Takes one client, answers it once it has sent as many bytes as the request has, and reads on until it ends the
+// Takes one client, answers it once it has sent as many bytes as the request is passed on with, and reads on until it ends the
 // connection.
 fn answer(alloc: Global, listener: TcpListener) -> io::Result<Vec<u8>> {
     let mut stream = accept(&listener)?;
     stream.set_read_timeout(Some(Duration::from_secs(PATIENCE_S)))?;
-    let mut heard = vec![in alloc; 0; GET.len()]?;
+    let mut heard = vec![in alloc; 0; PASSED_GET.len()]?;
     stream.read_exact(&mut heard)?;
     stream.write_all(REPLY)?;
     stream.take(MOST).read_to_end(&mut heard)?;
@@ -75,6 +90,16 @@ fn accept(listener: &TcpListener) -> io::Result<TcpStream> {
         }
     }
     Err(io::Error::from(ErrorKind::TimedOut))
+}
+
+// Whether these are both replies, each with a date.
+fn are_replies(heard: &[u8]) -> bool {
+    let middle = BEGIN.len() + DATE;
+    let end = middle + MIDDLE.len() + DATE;
+    heard.len() == end + END.len()
+        && heard.starts_with(BEGIN)
+        && heard[middle..].starts_with(MIDDLE)
+        && heard[end..] == *END
 }
 
 // A world of this route file, whose listener is the wire's.
@@ -99,7 +124,7 @@ fn route_file(
     backend: SocketAddr,
 ) -> Result<Bytes, AllocError> {
     let text = format!(in alloc;
-        "{{\"listen\":\"{gateway}\",\"workers\":1,\"routes\":[{{\"pattern\":\"/\",\"backend\":\"http://{backend}\"}}]}}"
+        "{{\"listen\":\"{gateway}\",\"workers\":1,\"routes\":[{{\"pattern\":\"/hello\",\"backend\":\"http://{backend}\"}}]}}"
     )?;
     Ok(Bytes::new(text.into_bytes()))
 }
@@ -138,11 +163,11 @@ fn one_connection(rt: HostRuntime) -> Result<(), Fail> {
             )
         },
     );
-    assert_eq!(rt; backend_heard?.as_slice(), GET);
-    assert_eq!(rt; client_heard?.as_slice(), REPLY);
+    assert_eq!(rt; backend_heard?.as_slice(), PASSED_GET);
+    assert!(rt; are_replies(&client_heard?));
     assert_eq!(rt; report.status, 8);
     assert_eq!(rt; world.printed(), b"accept failed\n".as_slice());
     assert_eq!(rt; report.workers.len(), 1);
-    assert_eq!(rt; report.workers[0].entered, 1);
+    assert_eq!(rt; report.workers[0].entered, 2);
     Ok(())
 }

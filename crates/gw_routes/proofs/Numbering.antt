@@ -39,17 +39,17 @@ record AreListed (l : RouteList) : Type 0 where
   hosts : All (λ r. IsWithin (length l.hosts) r.action) l.routes
 
 within_more : (m n : ℕ) → m ≤ n → (a : Action) → IsWithin m a → IsWithin n a
-within_more m n more (Backend host) h = omega arith
+within_more m n more (Backend host base) h = omega arith
 
 all_more : (m n : ℕ) → m ≤ n → (routes : List Route) → All (λ r. IsWithin m r.action) routes → All (λ r. IsWithin n r.action) routes
 all_more m n more routes h = All-weaker (λ r. IsWithin m r.action) (λ r. IsWithin n r.action) (λ r w. within_more m n more r.action w) routes h
 
-led : (hosts : List Addr) (addr : Addr) (routes : List Route) (text : List ℕ) (o : Option ℕ) → position (is_same addr) hosts ≡ o → All (λ r. IsWithin (length hosts) r.action) routes
-    → All (λ r. IsWithin (length (hosts_at hosts addr o)) r.action) (routes ++ leads_to text (host_at hosts o) ∷ [])
-led hosts addr routes text None e h =
+led : (hosts : List Addr) (addr : Addr) (routes : List Route) (text base : List ℕ) (o : Option ℕ) → position (is_same addr) hosts ≡ o → All (λ r. IsWithin (length hosts) r.action) routes
+    → All (λ r. IsWithin (length (hosts_at hosts addr o)) r.action) (routes ++ leads_to text (host_at hosts o) base ∷ [])
+led hosts addr routes text base None e h =
     let longer : length (hosts ++ addr ∷ []) ≡ length hosts + 1 = length-append hosts (addr ∷ []) in
     All-push (λ r. IsWithin (length (hosts ++ addr ∷ [])) r.action) routes _ (all_more (length hosts) _ (omega arith) routes h) (omega arith)
-led hosts addr routes text (Some host) e h =
+led hosts addr routes text base (Some host) e h =
     All-push (λ r. IsWithin (length hosts) r.action) routes _ h (position-Some (is_same addr) hosts host addr e).0
 
 listed_more : (l : RouteList) (r : RouteText) → AreListed l → AreListed (with_route l r)
@@ -57,13 +57,13 @@ unfolding with_route
 listed_more l r h = record {
   paired =
       length-append l.patterns (r.pattern ∷ []) ∙ ap (λ n. n + 1) h.paired
-      ∙ sym (length-append l.routes (leads_to r.text (host_of l.hosts r.backend) ∷ []));
-  hosts = led l.hosts r.backend l.routes r.text (position (is_same r.backend) l.hosts) refl h.hosts;
+      ∙ sym (length-append l.routes (leads_to r.text (host_of l.hosts r.backend) r.base ∷ []));
+  hosts = led l.hosts r.backend l.routes r.text r.base (position (is_same r.backend) l.hosts) refl h.hosts;
 }
 
 longer_by : (l : RouteList) (r : RouteText) → length (with_route l r).routes ≡ length l.routes + 1
 unfolding with_route
-longer_by l r = length-append l.routes (leads_to r.text (host_of l.hosts r.backend) ∷ [])
+longer_by l r = length-append l.routes (leads_to r.text (host_of l.hosts r.backend) r.base ∷ [])
 
 listed_from : (i : ℕ) (before : RouteList) (ds : Items) (l : RouteList) → AreListed before → routes_from i before ds ≡ Ok l → AreListed l × (length l.routes ≡ length before.routes + count_of ds)
 unfolding routes_from

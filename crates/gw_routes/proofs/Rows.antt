@@ -95,7 +95,7 @@ one_route : file_said (codes "{\"listen\":\"127.0.0.1:8080\",\"workers\":1,\"rou
       journal = 1048576;
       routes = record {
         hosts = record { local = false; ip = 127 ∷ 0 ∷ 0 ∷ 1 ∷ []; port = 9000 } ∷ [];
-        routes = leads_to (codes "/") 0 ∷ [];
+        routes = leads_to (codes "/") 0 [] ∷ [];
         patterns = record { method = None; host = []; segs = Rest [] ∷ [] } ∷ [];
       };
     })

@@ -1,6 +1,7 @@
 -- The routes of a file, and the hosts that they lead to.
-use Rattle.std.specs.Prelude.{ℕ, suc, ◌<◌, ◌+◌, Bool, ◌==◌, ◌&&◌, if◌then◌else◌, nat_le, nat_lt, List, [], ◌∷◌, ◌++◌, length, take, drop, map, position, Option, Some, None, Result, Ok, Err, codes, bytes_eq}
+use Rattle.std.specs.Prelude.{ℕ, suc, ◌<◌, ◌+◌, Bool, not, ◌==◌, ◌&&◌, if◌then◌else◌, nat_le, nat_lt, List, [], ◌∷◌, ◌++◌, length, take, drop, map, position, Option, Some, None, Result, Ok, Err, codes, bytes_eq}
 use Rattle.std.specs.Bool.{beq}
+use Rattle.std.specs.List.{list_all}
 use Rattle.serde_json.specs.Data.{Data, Items, no_items, item}
 use Rattle.gw_wire.specs.declared.values.Addr.{Addr}
 use Rattle.gw_pattern.specs.declared.fault.PatternError.{PatternError}
@@ -32,11 +33,41 @@ route_pattern i text = in_route i (pattern_said text)
 abbrev pub scheme : List ℕ
 scheme = codes "http://"
 
--- the address of a backend, whose base is empty
-abbrev pub backend_of : List ℕ → Option Addr
-backend_of text = if bytes_eq (take 7 text) scheme then address_of (drop 7 text) else None
+-- where the first slash of a text stands, or its end
+abbrev pub place_or : ℕ → Option ℕ → ℕ
+place_or end None = end
+place_or end (Some place) = place
 
-unfoldable pub backend_said : ℕ → List ℕ → Said Addr
+abbrev pub is_slash : ℕ → Bool
+is_slash b = b == 47
+
+abbrev pub slash_at : List ℕ → ℕ
+slash_at text = place_or (length text) (position is_slash text)
+
+-- a visible byte that neither ends a path nor begins an escape (RFC 3986, section 3.3)
+abbrev pub is_base_byte : ℕ → Bool
+is_base_byte b = nat_le 33 b && (nat_le b 126 && (not (b == 63) && (not (b == 35) && not (b == 37))))
+
+abbrev pub max_base : ℕ
+max_base = 1024
+
+abbrev pub is_base : List ℕ → Bool
+is_base base = nat_le (length base) max_base && list_all is_base_byte base
+
+abbrev pub with_base : List ℕ → Option Addr → Option (Addr × List ℕ)
+with_base base None = None
+with_base base (Some addr) = Some (addr, base)
+
+-- an address, and the base that begins at the first slash; without a slash it is empty
+abbrev pub backend_in : List ℕ → Option (Addr × List ℕ)
+backend_in text =
+    if is_base (drop (slash_at text) text) then with_base (drop (slash_at text) text) (address_of (take (slash_at text) text)) else None
+
+-- a backend: the scheme, an address and a base
+abbrev pub backend_of : List ℕ → Option (Addr × List ℕ)
+backend_of text = if bytes_eq (take 7 text) scheme then backend_in (drop 7 text) else None
+
+unfoldable pub backend_said : ℕ → List ℕ → Said (Addr × List ℕ)
 backend_said i text = or_fault BadAddress (Some i) (backend_of text)
 
 -- a route as it is written
@@ -44,6 +75,7 @@ pub record RouteText : Type 0 where
   pub text : List ℕ
   pub pattern : Spelled
   pub backend : Addr
+  pub base : List ℕ
 
 unfoldable pub route_said : ℕ → Data → Said RouteText
 route_said i d = do
@@ -51,11 +83,11 @@ route_said i d = do
   text ← text_said (codes "pattern") (Some i) d
   pattern ← route_pattern i text
   backend ← text_said (codes "backend") (Some i) d
-  addr ← backend_said i backend
-  Ok (record { text = text; pattern = pattern; backend = addr })
+  place ← backend_said i backend
+  Ok (record { text = text; pattern = pattern; backend = place.0; base = place.1 })
 
 abbrev pub route_text : Written → RouteText
-route_text w = record { text = w.text; pattern = spelled_of w.pattern; backend = w.backend }
+route_text w = record { text = w.text; pattern = spelled_of w.pattern; backend = w.backend; base = w.base }
 
 -- ---- hosts are numbered as they first appear
 
@@ -89,14 +121,14 @@ pub record RouteList : Type 0 where
 abbrev pub route_list : Placed → RouteList
 route_list p = record { hosts = p.hosts.items; routes = p.routes.items; patterns = map spelled_of p.patterns.items }
 
-abbrev pub leads_to : List ℕ → ℕ → Route
-leads_to text host = record { text = text; action = Backend host }
+abbrev pub leads_to : List ℕ → ℕ → List ℕ → Route
+leads_to text host base = record { text = text; action = Backend host base }
 
 -- one route more
 unfoldable pub with_route : RouteList → RouteText → RouteList
 with_route before r = record {
   hosts = hosts_with before.hosts r.backend;
-  routes = before.routes ++ leads_to r.text (host_of before.hosts r.backend) ∷ [];
+  routes = before.routes ++ leads_to r.text (host_of before.hosts r.backend) r.base ∷ [];
   patterns = before.patterns ++ r.pattern ∷ [];
 }
 
@@ -131,4 +163,4 @@ routes_said d = do
 
 -- the action's host is among so many
 abbrev pub IsWithin : ℕ → Action → Type 0
-IsWithin hosts (Backend host) = host < hosts
+IsWithin hosts (Backend host base) = host < hosts

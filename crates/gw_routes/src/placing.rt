@@ -65,11 +65,12 @@ fn place(before: Placed, written: Written) -> Result<Placed, AllocError>
         text,
         pattern,
         backend,
+        base,
     } = written;
     let host = number_of(&mut hosts, backend)?;
     routes.push(Route {
         text,
-        action: Action::Backend { host },
+        action: Action::Backend { host, base },
     })?;
     patterns.push(pattern)?;
     Ok(Placed {

@@ -1,9 +1,10 @@
 //! One route, as it is written.
-ghost use Rattle.std.specs.Prelude.{◌≡◌, ◌≤◌, IfOk};
+ghost use Rattle.std.specs.Prelude.{◌≡◌, ◌≤◌, ◌<◌, Some, None, IfOk, IfSome, MatchOption, length, position};
+ghost use Rattle.std.specs.List.{list_all};
 ghost use Rattle.serde_json.specs.View.{view};
 ghost use Rattle.gw_pattern.specs.Pattern.{IsWellFormed, spelled_of, wildcard_count};
 ghost use Rattle.gw_routes.specs.Kinds.{Gives};
-ghost use Rattle.gw_routes.specs.Routes.{backend_of, backend_said, route_pattern, route_said, route_text};
+ghost use Rattle.gw_routes.specs.Routes.{backend_in, backend_of, backend_said, is_base, is_base_byte, is_slash, route_pattern, route_said, route_text, slash_at};
 
 use crate::address::address_in;
 use crate::fault::{GCode, RouteError};
@@ -14,12 +15,13 @@ use gw_wire::{Addr, Bytes};
 use serde_json::Value;
 use std::alloc::Global;
 
-/// A route as it is written: the pattern's text, the pattern, and the backend's address.
+/// A route as it is written: the pattern's text, the pattern, and the backend's address and base.
 #[derive(Drop)]
 pub(crate) struct Written {
     pub(crate) text: Bytes,
     pub(crate) pattern: Pattern,
     pub(crate) backend: Addr,
+    pub(crate) base: Bytes,
 }
 
 /// The route of a number.
@@ -32,12 +34,14 @@ pub(crate) fn read_route(alloc: Global, value: &Value, number: u32) -> Result<Wr
     check_names(value, Some(number))?;
     let text = text_at(value, "pattern", Some(number))?;
     let pattern = read_pattern(alloc, text, number)?;
-    let backend = read_backend(text_at(value, "backend", Some(number))?, number)?;
+    let (backend, base) = read_backend(text_at(value, "backend", Some(number))?, number)?;
     let text = Bytes::new(Vec::from_slice(alloc, text.as_bytes())?);
+    let base = Bytes::new(Vec::from_slice(alloc, base)?);
     Ok(Written {
         text,
         pattern,
         backend,
+        base,
     })
 }
 
@@ -59,21 +63,81 @@ fn read_pattern(alloc: Global, text: &str, number: u32) -> Result<Pattern, Route
 }
 
 #[tactic(auto, unfolding(crate::specs::Routes::backend_said))]
-fn read_backend(text: &str, number: u32) -> Result<Addr, RouteError>
-    ensures { Gives (λ addr. addr) result (backend_said number text.now) }
+fn read_backend(text: &str, number: u32) -> Result<(Addr, &[u8]), RouteError>
+    ensures { Gives (λ backend. (backend.0, backend.1.now)) result (backend_said number text.now) }
 {
     match backend_of(text.as_bytes()) {
-        Some(addr) => Ok(addr),
+        Some(backend) => Ok(backend),
         None => Err(RouteError::bad(GCode::BadAddress, Some(number))),
     }
 }
 
-// `http://` and an address; no base may stand behind it yet.
-fn backend_of(text: &[u8]) -> Option<Addr>
-    ensures { result ≡ backend_of text.now }
+// `http://`, an address and a base.
+fn backend_of(text: &[u8]) -> Option<(Addr, &[u8])>
+    ensures { MatchOption result (backend_of text.now ≡ None) (λ backend. backend_of text.now ≡ Some (backend.0, backend.1.now)) }
 {
-    match text.strip_prefix(b"http://".as_slice()) {
-        Some(rest) => address_in(rest),
+    let Some(rest) = text.strip_prefix(b"http://".as_slice()) else {
+        return None;
+    };
+    backend_in(rest)
+}
+
+// An address, and the base that begins at the first slash.
+fn backend_in(text: &[u8]) -> Option<(Addr, &[u8])>
+    ensures { MatchOption result (backend_in text.now ≡ None) (λ backend. backend_in text.now ≡ Some (backend.0, backend.1.now)) }
+{
+    let slash = slash_in(text);
+    let base = &text[slash..];
+    if !is_base(base) {
+        return None;
+    }
+    match address_in(&text[..slash]) {
+        Some(addr) => Some((addr, base)),
         None => None,
     }
+}
+
+// Where the first slash stands, or the text's end.
+fn slash_in(text: &[u8]) -> usize
+    ensures place { result ≡ slash_at text.now }
+    ensures within { result ≤ length text.now }
+{
+    match first_slash(text) {
+        Some(place) => place,
+        None => text.len(),
+    }
+}
+
+fn first_slash(text: &[u8]) -> Option<usize>
+    ensures place { result ≡ position is_slash text.now }
+    ensures within { IfSome result (λ place. place < length text.now) }
+{
+    text.iter().position(|b| is_slash(*b))
+}
+
+// How many bytes a base has at most.
+const MAX_BASE: usize = 1024;
+
+fn is_base(base: &[u8]) -> bool
+    ensures { result ≡ is_base base.now }
+{
+    base.len() <= MAX_BASE && are_base_bytes(base)
+}
+
+fn are_base_bytes(base: &[u8]) -> bool
+    ensures { result ≡ list_all is_base_byte base.now }
+{
+    base.iter().all(|b| is_base_byte(*b))
+}
+
+fn is_base_byte(b: u8) -> bool
+    ensures { result ≡ is_base_byte b }
+{
+    0x21 <= b && b <= 0x7e && b != b'?' && b != b'#' && b != b'%'
+}
+
+fn is_slash(b: u8) -> bool
+    ensures { result ≡ is_slash b }
+{
+    b == b'/'
 }

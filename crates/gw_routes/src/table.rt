@@ -5,10 +5,11 @@ use gw_pool::Limits;
 use gw_wire::{Addr, Bytes};
 
 /// What a route does with its requests.
-#[derive(Clone, Copy, Debug)]
+#[derive(Debug, Drop)]
 pub enum Action {
-    /// They go to the host of this number, from 0.
-    Backend { host: u32 },
+    /// They go to the host of this number, from 0. The base stands before each path: it is empty, or has 1 to 1,024
+    /// bytes from 0x21 to 0x7E other than `?`, `#` and `%`, the first of which is `/`.
+    Backend { host: u32, base: Bytes },
 }
 
 /// A route, whose pattern the table's router has under the same number.

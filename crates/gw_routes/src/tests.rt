@@ -34,9 +34,10 @@ fn table_line(alloc: Global, table: &Table) -> Result<String, AllocError> {
         text.push_str(format!(in alloc; " {host}")?.as_str())?;
     }
     for route in &table.routes {
-        let Action::Backend { host } = route.action;
+        let Action::Backend { host, base } = &route.action;
         let words = str::from_utf8(route.text.as_slice()).unwrap_or("?");
-        text.push_str(format!(in alloc; "|{words}>{host}")?.as_str())?;
+        let base = str::from_utf8(base.as_slice()).unwrap_or("?");
+        text.push_str(format!(in alloc; "|{words}>{host}{base}")?.as_str())?;
     }
     Ok(text)
 }
@@ -174,7 +175,23 @@ fn faults_in_a_route(rt: HostRuntime) -> Result<(), Fail> {
             "G8 route 1",
         ),
         (
-            "{\"pattern\":\"/a\",\"backend\":\"http://127.0.0.1:9000/\"}",
+            "{\"pattern\":\"/a\",\"backend\":\"http://127.0.0.1:9000/b?c\"}",
+            "G8 route 1",
+        ),
+        (
+            "{\"pattern\":\"/a\",\"backend\":\"http://127.0.0.1:9000/b#c\"}",
+            "G8 route 1",
+        ),
+        (
+            "{\"pattern\":\"/a\",\"backend\":\"http://127.0.0.1:9000/%62\"}",
+            "G8 route 1",
+        ),
+        (
+            "{\"pattern\":\"/a\",\"backend\":\"http://127.0.0.1:9000/b c\"}",
+            "G8 route 1",
+        ),
+        (
+            "{\"pattern\":\"/a\",\"backend\":\"http://127.0.0.1/b\"}",
             "G8 route 1",
         ),
         (
@@ -215,6 +232,10 @@ fn tables(rt: HostRuntime) -> Result<(), Fail> {
         (
             "{\"pattern\":\"/b\",\"pattern\":\"GET /{x}\",\"backend\":\"http://0.0.0.0:65535\"}",
             "127.0.0.1:8080 127.0.0.1:9000 0.0.0.0:65535|/>0|GET /{x}>1",
+        ),
+        (
+            "{\"pattern\":\"/b\",\"backend\":\"http://127.0.0.1:9000/\"},{\"pattern\":\"/c\",\"backend\":\"http://127.0.0.1:9000/api//v~!1/\"}",
+            "127.0.0.1:8080 127.0.0.1:9000|/>0|/b>0/|/c>0/api//v~!1/",
         ),
         (
             "{\"pattern\":\"/\",\"backend\":\"http://localhost:1\"}",

@@ -1,11 +1,4 @@
-mod AttemptLemmas
-mod ExchangeLemmas
-mod HearLemmas
 mod InspectLemmas
-mod LeaseLemmas
 mod LoadLemmas
-mod PlanLemmas
-mod PoolLemmas
 mod RunLemmas
 mod TopLemmas
-mod WaitLemmas

@@ -1,5 +1,5 @@
 -- The top call: its lines, its refusals, and the run that it reports, over plain variables.
-use Rattle.std.proofs.Common.{◌≡◌, ℕ, inl, inr, true, false, List, [], ◌∷◌, ◌++◌, map, Option, Some, None, Result, Ok, Err, refl, ap, sym, ◌∙◌, subst, arith}
+use Rattle.std.proofs.Common.{◌≡◌, ◌+◌, ℕ, Bool, inl, inr, true, false, List, [], ◌∷◌, ◌++◌, map, Option, Some, None, Result, Ok, Err, refl, ap, sym, ◌∙◌, subst, arith}
 use Rattle.std.specs.Prelude.{if◌then◌else◌, String}
 use Rattle.std.specs.declared.alloc.Global.{Global}
 use Rattle.gw_wire.specs.declared.traits.Printed.{Printed}
@@ -13,21 +13,27 @@ use Rattle.gw_wire.specs.Stretch.{Told, Then, Acts}
 use Rattle.gw_wire.specs.Wire.{WireView, Later, HasNoActs}
 use Rattle.gw_wire.specs.World.{WorldView, WorldLater, PrintStep, IsGiven, ListensNow, ListensAt}
 use Rattle.gw_wire.proofs.StretchLemmas.{Logs-none, Logs-then, Told-map, Told-then}
+use Rattle.gw_head.specs.declared.request.RequestHead.{RequestHead}
 use Rattle.gw_pool.specs.declared.entry.Entry.{Entry}
 use Rattle.gw_pool.specs.declared.limits.Limits.{Limits}
 use Rattle.gw_pool.specs.History.{IsLegal, AreBelow}
 use Rattle.gw_pool.specs.Idle.{idle_links}
 use Rattle.gw_pool.specs.Lent.{Lent}
 use Rattle.gw_routes.specs.declared.table.Table.{Table}
+use Rattle.gw_session.specs.declared.end.Ended.{Ended}
+use Rattle.gw_session.specs.declared.end.Next.{Next}
+use Rattle.gw_session.specs.declared.end.Next.TheVariants.{Again, End}
+use Rattle.gw_session.specs.Exchange.{Exchanges, sent_text}
+use Rattle.gw_session.specs.Replies.{SaidActs}
+use Rattle.gw_session.specs.Session.{Behind, Serves, is_last}
+use Rattle.gw_session.specs.Turn.{Deed, Undecided, Owned, Stopped, Faulty, Passed, Deeds, HearsUpload, Turn, Unheard, Refused, Heard, Turned, turn_next}
+use Rattle.gw_session.proofs.SayLemmas.{rises_from, rises_to}
 use Rattle.gw_top.specs.declared.run.Report.{Report}
 use Rattle.gw_top.specs.declared.worker.Worker.{Worker}
 use Rattle.gw_top.specs.Command.{IsServe, name_of}
 use Rattle.gw_top.specs.Lines.{unheard_line, memory_line, accept_line}
 use Rattle.gw_top.specs.Load.{Prints, SaysTable, NoTable, Loads}
-use Rattle.gw_top.specs.Exchange.{Exchanges, SaysAnswer, reply_text}
-use Rattle.gw_top.specs.Routing.{IsRouted}
-use Rattle.gw_top.specs.Run.{Visit, Visits, Worked, Run, LogIs, Follow, made_by, last_act}
-use Rattle.gw_top.specs.Thin.{Turn, Unheard, Refused, Answered, Passed, Undecided, HearsHead, ThinExchange}
+use Rattle.gw_top.specs.Run.{Visit, Visited, Visits, Worked, Run, LogIs, Follow, made_by, last_act}
 use Rattle.gw_top.specs.Status.{IsEmpty, Refuses, RefusesOr7, Finished, Serves, Ends, Ran}
 
 pub world_then : (a b c : WorldView) → WorldLater a b → WorldLater b c → WorldLater a c
@@ -85,17 +91,43 @@ pub closes_of : {C : Type 0} (number : C → ℕ) (idle : List C) (links : List 
 closes_of number idle links e = map_map Closed number idle ∙ ap (λ l. map Closed l) e
 
 -- groups that are the same for each address
-thin_along : (groups others : Addr → List Addr) → ((address : Addr) → groups address ≡ others address) → (client : ℕ) (table : Table) (turn : Turn) (l : List Act)
-    → ThinExchange client groups table turn l → ThinExchange client others table turn l
-thin_along groups others same client table (Unheard heard) l t = t
-thin_along groups others same client table (Refused error sent) l t = t
-thin_along groups others same client table (Answered asked own sent) l t = t
-thin_along groups others same client table (Passed asked trip sent) l t =
-    let P : List Addr → Type 0 = λ members. IsRouted table asked.text asked.head trip.host trip.backend
-    × Then (HearsHead client asked)
-    (Then (Exchanges members trip.host trip.backend asked.text trip.link trip.answer)
-    (Then (SaysAnswer client (reply_text trip.answer) sent) (Acts (Closed client ∷ [])))) l in subst P (same trip.backend) t
-thin_along groups others same client table (Undecided asked) l t = t
+deed_along : (groups others : Addr → List Addr) → ((address : Addr) → groups address ≡ others address) → (client : ℕ) (peer : List ℕ) (table : Table) (last : Bool) (head : RequestHead) (kept ahead : List ℕ) (deed : Deed) (l : List Act)
+    → Deeds client peer groups table last head kept ahead deed l → Deeds client peer others table last head kept ahead deed l
+deed_along groups others same client peer table last head kept ahead Undecided l t = t
+deed_along groups others same client peer table last head kept ahead (Owned own said) l t = t
+deed_along groups others same client peer table last head kept ahead (Stopped number upload) l t = t
+deed_along groups others same client peer table last head kept ahead (Faulty number error said) l t = t
+deed_along groups others same client peer table last head kept ahead (Passed number upload trip said) l t =
+    let P : List Addr → Type 0 = λ members.
+        Then (HearsUpload client head kept ahead upload)
+        (Then (Exchanges members trip.target.host trip.target.backend (sent_text head trip.target peer trip.body) head.method trip.link trip.answer)
+        (SaidActs client said)) l in
+    (t.0, t.1, t.2, t.3, subst P (same trip.target.backend) t.4)
+
+turn_along : (groups others : Addr → List Addr) → ((address : Addr) → groups address ≡ others address) → (client : ℕ) (peer : List ℕ) (table : Table) (last : Bool) (kept ahead : List ℕ) (turn : Turn) (l : List Act)
+    → Turned client peer groups table last kept ahead turn l → Turned client peer others table last kept ahead turn l
+turn_along groups others same client peer table last kept ahead (Unheard heard) l t = t
+turn_along groups others same client peer table last kept ahead (Refused error said) l t = t
+turn_along groups others same client peer table last kept ahead (Heard text head deed) l t =
+    (t.0, t.1, t.2, t.3, t.4, deed_along groups others same client peer table last head t.0 ahead deed t.2 t.5)
+
+behind_along : (next : Next) (P Q : List Act → Type 0) (result : Ended) (turns : List Turn) (l : List Act) → ((m : List Act) → P m → Q m)
+    → Behind next P result turns l → Behind next Q result turns l
+behind_along Again P Q result turns l f b = f l b
+behind_along (End why) P Q result turns l f b = b
+
+serves_along : (groups others : Addr → List Addr) → ((address : Addr) → groups address ≡ others address) → (client : ℕ) (peer : List ℕ) (table : Table) (number : ℕ) (kept : List ℕ) (result : Ended) (turns : List Turn) (l : List Act)
+    → Serves client peer groups table number kept result turns l → Serves client peer others table number kept result turns l
+serves_along groups others same client peer table number kept result [] l s = s
+serves_along groups others same client peer table number kept result (turn ∷ turns) l s =
+    (s.0, s.1, s.2, s.3, turn_along groups others same client peer table (is_last number) kept s.0 turn s.1 s.4,
+    behind_along (turn_next (is_last number) turn) (Serves client peer groups table (number + 1) s.0 result turns) (Serves client peer others table (number + 1) s.0 result turns) result turns s.2
+    (λ m p. serves_along groups others same client peer table (number + 1) s.0 result turns m p) s.5)
+
+visited_along : (groups others : Addr → List Addr) → ((address : Addr) → groups address ≡ others address) → (table : Table) (v : Visit) (l : List Act)
+    → Visited groups table v l → Visited others table v l
+visited_along groups others same table v l t =
+    (t.0, t.1, t.2, t.3, (t.4.0, t.4.1, t.4.2, serves_along groups others same v.client v.peer table 1 [] v.ended v.turns t.4.0 t.4.3, t.4.4))
 
 visits_along : (groups others : Addr → List Addr) → ((address : Addr) → groups address ≡ others address) → (table : Table) (visits : List Visit) (l : List Act)
     → Visits groups table visits l → Visits others table visits l
@@ -104,7 +136,7 @@ visits_along groups others same table (v ∷ later) l t = (
   t.0,
   t.1,
   t.2,
-  (t.3.0, t.3.1, t.3.2, t.3.3, thin_along groups others same v.client table v.turn t.3.1 t.3.4),
+  visited_along groups others same table v t.0 t.3,
   visits_along groups others same table later t.1 t.4,
 )
 
@@ -152,6 +184,7 @@ served wire old mid new table first ended before after journal closes worker rep
         entered = w.count;
         faults = let x = w.faults in let y = behind.dial_faults in let z = given.fresh.dial_faults in omega arith;
         waited = let x = w.waited in let y = behind.ticks in let z = given.fresh.ticks in omega arith;
+        timed = rises_from _ first.moment last.moment _ (let x = given.fresh.moment in let y = w.later.first in let z = behind.first in omega arith) (rises_to first.moment ended.moment last.moment _ w.timed behind.moment);
         log = rw f.journal_is (log_is first.log last.log (Then (Then V L) idle) given.fresh.log (Told-then first.log ended.log last.log (Then V L) idle worked (subst Q same told)));
       };
     }

@@ -1,15 +1,7 @@
-pub mod Attempt
 pub mod Command
-pub mod Exchange
-pub mod Hearing
-pub mod Leased
 pub mod Lines
 pub mod Load
-pub mod Plain
+pub mod Methods
 pub mod Printed
-pub mod Replies
-pub mod Routing
 pub mod Run
 pub mod Status
-pub mod Thin
-pub mod Waits

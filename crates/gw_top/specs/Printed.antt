@@ -20,7 +20,7 @@ use Rattle.gw_routes.specs.declared.table.Table.{Table}
 use Rattle.gw_top.specs.Command.{Question, IsCheck, IsRoute, name_of, question_of}
 use Rattle.gw_top.specs.Lines.{usage_line, memory_line}
 use Rattle.gw_top.specs.Load.{Says, SaysTable, NoTable}
-use Rattle.gw_top.specs.Replies.{listed}
+use Rattle.gw_top.specs.Methods.{listed}
 
 -- the name of a wildcard; the one behind a slash at the pattern's end has none
 abbrev pub name_in : Seg → Option (List ℕ)

@@ -8,11 +8,11 @@ use Rattle.gw_wire.specs.World.{WorldView, WorldLater, ListensNow}
 use Rattle.gw_pool.specs.declared.entry.Entry.{Entry}
 use Rattle.gw_routes.specs.declared.table.Table.{Table}
 use Rattle.gw_routes.specs.Files.{AreNumbered}
+use Rattle.gw_session.specs.Leased.{IsVacant}
 use Rattle.gw_top.specs.declared.run.Setup.{Setup}
 use Rattle.gw_top.specs.declared.run.Report.{Report}
 use Rattle.gw_top.specs.declared.worker.Worker.{Worker}
 use Rattle.gw_top.specs.Command.{IsServe, name_of}
-use Rattle.gw_top.specs.Leased.{IsVacant}
 use Rattle.gw_top.specs.Lines.{usage_line, unheard_line, memory_line, accept_line}
 use Rattle.gw_top.specs.Load.{Prints, SaysTable, NoTable}
 use Rattle.gw_top.specs.Run.{Run}
@@ -87,6 +87,5 @@ pub record IsReady {C W : Type 0} (setup : Setup W C) : Type 0 where
   pub vacant : IsVacant setup.pool
   pub seen : setup.pool.seen ≡ []
   pub mine : setup.pool.mine ≡ []
-  pub room : 0 < length setup.buf.items
   pub nobody : setup.workers.items ≡ []
   pub place : 0 < vec_capacity setup.workers

@@ -7,7 +7,7 @@ ghost use Rattle.gw_top.specs.Printed.{Inspected, Prints, PrintsOr7, AnswersQues
 
 use crate::command::{Query, USAGE, check_name, route_query};
 use crate::load::{load_table, no_memory};
-use crate::replies::list_methods;
+use crate::methods::list_methods;
 use gw_head::{split_target, strip_port};
 use gw_mux::{Decision, Hit};
 use gw_pattern::Seg;

@@ -11,16 +11,12 @@ ghost use Rattle.gw_top.specs.Status.{Ran, Ends, Refuses, RefusesOr7, Finished, 
 use crate::command::{USAGE, serve_name};
 use crate::load::load_table;
 use crate::worker::{Worker, work};
-use gw_head::HeadReader;
 use gw_pool::{Closed, Entry, Solo};
 use gw_routes::Table;
 use gw_wire::{Addr, Listening, Wire, World};
 use std::alloc::{AllocError, Global};
 use std::sync::Wait;
 use std::thread::Threads;
-
-/// How many bytes a worker reads at once.
-const BUFFER: usize = 65_536;
 
 /// What a run leaves: its status, and where it came so far the table that it served, the pool's journal and the
 /// workers.
@@ -42,8 +38,6 @@ struct Setup<W: Wire> {
     table: Table,
     pool: Solo<W::Conn>,
     workers: Vec<Worker<W>>,
-    reader: HeadReader,
-    buf: Vec<u8>,
 }
 
 /// Serves the route file that the words `serve ROUTES` name, over this world, until the listener ends or an accept
@@ -80,8 +74,6 @@ fn prepare<W: Wire>(alloc: Global, table: Table) -> Result<Setup<W>, AllocError>
         table,
         pool,
         workers: Vec::with_capacity(alloc, 1)?,
-        reader: HeadReader::new(alloc)?,
-        buf: vec![in alloc; 0; BUFFER]?,
     })
 }
 
@@ -99,8 +91,6 @@ fn listen_and_serve<R: Wait, H: World>(
         table,
         mut pool,
         workers,
-        mut reader,
-        mut buf,
     } = setup;
     let wire = match world.listen(&table.listen, table.workers) {
         Listening::Wires(wires) => first(wires),
@@ -113,15 +103,7 @@ fn listen_and_serve<R: Wait, H: World>(
         entered: 0,
         accept_failed: false,
     };
-    work(
-        rt,
-        alloc,
-        &mut worker,
-        &mut pool,
-        &table,
-        &mut reader,
-        &mut buf,
-    );
+    work(rt, alloc, &mut worker, &mut pool, &table);
     let Ok(Closed { journal, idle }) = pool.close() else {
         return refuse(alloc, world, 7, b"out of memory\n");
     };

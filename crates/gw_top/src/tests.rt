@@ -23,7 +23,16 @@ const FILE: &[u8] =
 const GET: &[u8] =
     b"GET /hello?x=1 HTTP/1.1\r\nHost: example.com\r\nUser-Agent: curl/8.5.0\r\nAccept: */*\r\n\r\n";
 
-const REPLY: &[u8] = b"HTTP/1.1 200 OK\r\nContent-Length: 3\r\n\r\nhi\n";
+// What the backend gets of it.
+const PASSED_GET: &[u8] =
+    b"GET /hello?x=1 HTTP/1.1\r\nHost: example.com\r\nAccept: */*\r\nUser-Agent: curl/8.5.0\r\nX-Forwarded-For: 10.0.0.7\r\n\r\n";
+
+const REPLY: &[u8] =
+    b"HTTP/1.1 200 OK\r\nContent-Type: text/plain\r\nContent-Length: 3\r\n\r\nhi\n";
+
+// What the client gets of it.
+const PASSED_REPLY: &[u8] =
+    b"HTTP/1.1 200 OK\r\nContent-Length: 3\r\nContent-Type: text/plain\r\nDate: Sun, 06 Nov 1994 08:49:37 GMT\r\n\r\nhi\n";
 
 fn bytes(alloc: Global, text: &[u8]) -> Result<Bytes, AllocError> {
     Ok(Bytes::new(text.to_vec(alloc)?))
@@ -95,9 +104,14 @@ fn passed(acts: &[Act]) -> bool {
             Act::Read(2, _),
             Act::Closed(2),
             to_client,
+            Act::End(1),
             Act::Closed(1),
             Act::Ended,
-        ] => addr.port == 9_000 && wrote(to_backend, 2, GET) && wrote(to_client, 1, REPLY),
+        ] => {
+            addr.port == 9_000
+                && wrote(to_backend, 2, PASSED_GET)
+                && wrote(to_client, 1, PASSED_REPLY)
+        }
         _ => false,
     }
 }
@@ -137,37 +151,6 @@ fn one_get(rt: HostRuntime) -> Result<(), Fail> {
     assert_eq!(rt; report.workers.len(), 1);
     assert_eq!(rt; report.workers[0].entered, 1);
     assert!(rt; passed(report.workers[0].wire.acts()));
-    Ok(())
-}
-
-fn refused(acts: &[Act]) -> bool {
-    match acts {
-        [
-            Act::Accepted(1, _),
-            Act::Read(1, _),
-            to_client,
-            Act::Closed(1),
-            Act::Ended,
-        ] => wrote(
-            to_client,
-            1,
-            b"HTTP/1.1 501 Not Implemented\r\nConnection: close\r\nContent-Length: 20\r\n\r\n501 Not Implemented\n",
-        ),
-        _ => false,
-    }
-}
-
-#[test]
-fn not_first_form(rt: HostRuntime) -> Result<(), Fail> {
-    let alloc = rt.alloc();
-    let post = b"POST / HTTP/1.1\r\nHost: example.com\r\nContent-Length: 2\r\n\r\nok";
-    let mut world = world(alloc, FILE, wire(alloc, post, REPLY)?)?;
-    let words = words(alloc, &["serve", "routes.json"])?;
-    let report = run_gateway(&rt, alloc, words.as_slice(), &mut world);
-    assert_eq!(rt; report.status, 0);
-    assert_eq!(rt; report.journal.len(), 0);
-    assert_eq!(rt; report.workers.len(), 1);
-    assert!(rt; refused(report.workers[0].wire.acts()));
     Ok(())
 }
 
@@ -331,7 +314,7 @@ fn bad_patterns(rt: HostRuntime) -> Result<(), Fail> {
     let empty = file_of(alloc, &[""])?;
     let doubled = file_of(alloc, &["/a", "/a/{x}/{x}"])?;
     let base =
-        "{\"listen\":\"127.0.0.1:8080\",\"routes\":[{\"pattern\":\"/\",\"backend\":\"http://127.0.0.1:9000/api\"}]}";
+        "{\"listen\":\"127.0.0.1:8080\",\"routes\":[{\"pattern\":\"/\",\"backend\":\"http://127.0.0.1:9000/a?b\"}]}";
     for (file, text) in [
         (empty.as_str(), "bad routes: G6 route 0 P1 at 0\n"),
         (doubled.as_str(), "bad routes: G6 route 1 P13 at 7\n"),
@@ -381,20 +364,12 @@ fn words_of_no_command(rt: HostRuntime) -> Result<(), Fail> {
     Ok(())
 }
 
-// What the only client of a run was written.
-fn answered<R: Threads + Wait + Sync>(
-    rt: &R,
-    alloc: Global,
-    file: &str,
-    request: &[u8],
-) -> Result<Vec<u8>, Fail> {
-    let mut world = world(alloc, file.as_bytes(), wire(alloc, request, REPLY)?)?;
-    let words = words(alloc, &["serve", "routes.json"])?;
-    let report = run_gateway(rt, alloc, words.as_slice(), &mut world);
+// What was written to a link in a run.
+fn written_to(alloc: Global, acts: &[Act], link: u64) -> Result<Vec<u8>, AllocError> {
     let mut text = Vec::new(alloc);
-    for worker in &report.workers {
-        for act in worker.wire.acts() {
-            if let Act::Wrote(1, piece) = act {
+    for act in acts {
+        if let Act::Wrote(at, piece) = act {
+            if *at == link {
                 text.extend_from_slice(piece.as_slice())?;
             }
         }
@@ -402,22 +377,53 @@ fn answered<R: Threads + Wait + Sync>(
     Ok(text)
 }
 
+// What the only client of a run was written, and what the backend that it was passed on to.
+fn traded<R: Threads + Wait + Sync>(
+    rt: &R,
+    alloc: Global,
+    file: &str,
+    request: &[u8],
+    reply: &[u8],
+) -> Result<(Vec<u8>, Vec<u8>), Fail> {
+    let mut world = world(alloc, file.as_bytes(), wire(alloc, request, reply)?)?;
+    let words = words(alloc, &["serve", "routes.json"])?;
+    let report = run_gateway(rt, alloc, words.as_slice(), &mut world);
+    match report.workers.as_slice() {
+        [worker] => Ok((
+            written_to(alloc, worker.wire.acts(), 1)?,
+            written_to(alloc, worker.wire.acts(), 2)?,
+        )),
+        _ => Ok((Vec::new(alloc), Vec::new(alloc))),
+    }
+}
+
+// What the only client of a run was written.
+fn answered<R: Threads + Wait + Sync>(
+    rt: &R,
+    alloc: Global,
+    file: &str,
+    request: &[u8],
+) -> Result<Vec<u8>, Fail> {
+    let (client, _) = traded(rt, alloc, file, request, REPLY)?;
+    Ok(client)
+}
+
 #[test]
 fn cleaning_redirects(rt: HostRuntime) -> Result<(), Fail> {
     let alloc = rt.alloc();
-    let file = file_of(alloc, &["/zzz", "POST /post"])?;
+    let file = file_of(alloc, &["/zzz"])?;
     for (line, text) in [
         (
             "GET /a//b/../c?x=1",
-            "HTTP/1.1 301 Moved Permanently\r\nConnection: close\r\nContent-Length: 0\r\nLocation: /a/c?x=1\r\n\r\n",
+            "HTTP/1.1 301 Moved Permanently\r\nContent-Length: 0\r\nDate: Sun, 06 Nov 1994 08:49:37 GMT\r\nLocation: /a/c?x=1\r\n\r\n",
         ),
         (
             "GET /q",
-            "HTTP/1.1 404 Not Found\r\nConnection: close\r\nContent-Length: 14\r\n\r\n404 Not Found\n",
+            "HTTP/1.1 404 Not Found\r\nContent-Length: 14\r\nDate: Sun, 06 Nov 1994 08:49:37 GMT\r\n\r\n404 Not Found\n",
         ),
         (
-            "GET /post",
-            "HTTP/1.1 405 Method Not Allowed\r\nAllow: POST\r\nConnection: close\r\nContent-Length: 23\r\n\r\n405 Method Not Allowed\n",
+            "HEAD /q",
+            "HTTP/1.1 404 Not Found\r\nContent-Length: 14\r\nDate: Sun, 06 Nov 1994 08:49:37 GMT\r\n\r\n",
         ),
     ] {
         let mut request = line.as_bytes().to_vec(alloc)?;
@@ -425,6 +431,216 @@ fn cleaning_redirects(rt: HostRuntime) -> Result<(), Fail> {
         let said = answered(&rt, alloc, file.as_str(), &request)?;
         assert_eq!(rt; said.as_slice(), text.as_bytes(), "{line}");
     }
+    Ok(())
+}
+
+/// The connection stays open behind a 405, and behind the answer to `OPTIONS *`.
+#[test]
+fn method_not_allowed(rt: HostRuntime) -> Result<(), Fail> {
+    let alloc = rt.alloc();
+    let file = file_of(alloc, &["GET /a"])?;
+    let said = answered(
+        &rt,
+        alloc,
+        file.as_str(),
+        b"POST /a HTTP/1.1\r\nHost: a\r\nContent-Length: 0\r\n\r\nOPTIONS * HTTP/1.1\r\nHost: a\r\n\r\nPOST /a HTTP/1.1\r\nHost: a\r\nContent-Length: 3\r\n\r\nOPTIONS * HTTP/1.1\r\nHost: a\r\n\r\n",
+    )?;
+    assert_eq!(rt;
+        said.as_slice(),
+        b"HTTP/1.1 405 Method Not Allowed\r\nAllow: GET, HEAD\r\nContent-Length: 23\r\nDate: Sun, 06 Nov 1994 08:49:37 GMT\r\n\r\n405 Method Not Allowed\nHTTP/1.1 200 OK\r\nContent-Length: 0\r\nDate: Sun, 06 Nov 1994 08:49:37 GMT\r\n\r\nHTTP/1.1 405 Method Not Allowed\r\nAllow: GET, HEAD\r\nConnection: close\r\nContent-Length: 23\r\nDate: Sun, 06 Nov 1994 08:49:37 GMT\r\n\r\n405 Method Not Allowed\n".as_slice()
+    );
+    Ok(())
+}
+
+/// Requests with their replies, as they come and as they go.
+#[test]
+fn passed_on(rt: HostRuntime) -> Result<(), Fail> {
+    let alloc = rt.alloc();
+    let file = file_of(alloc, &["/"])?;
+    for (name, request, to_backend, reply, to_client) in [
+        (
+            "chunked_upload",
+            "POST /up HTTP/1.1\r\nHost: example.com\r\nTransfer-Encoding: chunked\r\n\r\n4;x=y\r\nWiki\r\n5\r\npedia\r\n0\r\nT: 1\r\n\r\n",
+            "POST /up HTTP/1.1\r\nHost: example.com\r\nTransfer-Encoding: chunked\r\nX-Forwarded-For: 10.0.0.7\r\n\r\n9\r\nWikipedia\r\n0\r\n\r\n",
+            "HTTP/1.1 204 No Content\r\n\r\n",
+            "HTTP/1.1 204 No Content\r\nDate: Sun, 06 Nov 1994 08:49:37 GMT\r\n\r\n",
+        ),
+        (
+            "bad_chunk",
+            "POST /up HTTP/1.1\r\nHost: example.com\r\nTransfer-Encoding: chunked\r\n\r\n4\r\nWikiX\r\n0\r\n\r\n",
+            "",
+            "HTTP/1.1 204 No Content\r\n\r\n",
+            "HTTP/1.1 400 Bad Request\r\nConnection: close\r\nContent-Length: 16\r\nDate: Sun, 06 Nov 1994 08:49:37 GMT\r\n\r\n400 Bad Request\n",
+        ),
+        (
+            "hop_by_hop",
+            "GET / HTTP/1.1\r\nHost: example.com\r\nConnection: X-Secret, close\r\nX-Secret: 1\r\nTE: gzip, trailers\r\nKeep-Alive: 5\r\nX-Forwarded-For: 1.2.3.4\r\n\r\nGET / HTTP/1.1\r\nHost: example.com\r\n\r\n",
+            "GET / HTTP/1.1\r\nHost: example.com\r\nTe: trailers\r\nX-Forwarded-For: 1.2.3.4, 10.0.0.7\r\n\r\n",
+            "HTTP/1.1 200 OK\r\nContent-Length: 0\r\n\r\n",
+            "HTTP/1.1 200 OK\r\nConnection: close\r\nContent-Length: 0\r\nDate: Sun, 06 Nov 1994 08:49:37 GMT\r\n\r\n",
+        ),
+        (
+            "old_client",
+            "GET / HTTP/1.0\r\n\r\n",
+            "GET / HTTP/1.1\r\nHost: 127.0.0.1:9000\r\nX-Forwarded-For: 10.0.0.7\r\n\r\n",
+            "HTTP/1.1 200 OK\r\nTransfer-Encoding: chunked\r\n\r\n2\r\nok\r\n0\r\n\r\n",
+            "HTTP/1.0 200 OK\r\nConnection: close\r\nDate: Sun, 06 Nov 1994 08:49:37 GMT\r\n\r\nok",
+        ),
+        (
+            "continue",
+            "POST /up HTTP/1.1\r\nHost: example.com\r\nContent-Length: 2\r\nExpect: 100-continue\r\n\r\nok",
+            "POST /up HTTP/1.1\r\nHost: example.com\r\nContent-Length: 2\r\nX-Forwarded-For: 10.0.0.7\r\n\r\nok",
+            "HTTP/1.1 204 No Content\r\n\r\n",
+            "HTTP/1.1 100 Continue\r\n\r\nHTTP/1.1 204 No Content\r\nDate: Sun, 06 Nov 1994 08:49:37 GMT\r\n\r\n",
+        ),
+        (
+            "head",
+            "HEAD / HTTP/1.1\r\nHost: example.com\r\n\r\n",
+            "HEAD / HTTP/1.1\r\nHost: example.com\r\nX-Forwarded-For: 10.0.0.7\r\n\r\n",
+            "HTTP/1.1 200 OK\r\nContent-Length: 5\r\n\r\n",
+            "HTTP/1.1 200 OK\r\nContent-Length: 5\r\nDate: Sun, 06 Nov 1994 08:49:37 GMT\r\n\r\n",
+        ),
+        (
+            "to_the_end",
+            "GET / HTTP/1.1\r\nHost: example.com\r\n\r\n",
+            "GET / HTTP/1.1\r\nHost: example.com\r\nX-Forwarded-For: 10.0.0.7\r\n\r\n",
+            "HTTP/1.1 200 OK\r\n\r\nhello",
+            "HTTP/1.1 200 OK\r\nDate: Sun, 06 Nov 1994 08:49:37 GMT\r\nTransfer-Encoding: chunked\r\n\r\n5\r\nhello\r\n0\r\n\r\n",
+        ),
+        (
+            "truncated_reply",
+            "GET / HTTP/1.1\r\nHost: example.com\r\n\r\n",
+            "GET / HTTP/1.1\r\nHost: example.com\r\nX-Forwarded-For: 10.0.0.7\r\n\r\n",
+            "HTTP/1.1 200 OK\r\nContent-Length: 10\r\n\r\n1234",
+            "HTTP/1.1 502 Bad Gateway\r\nContent-Length: 16\r\nDate: Sun, 06 Nov 1994 08:49:37 GMT\r\n\r\n502 Bad Gateway\n",
+        ),
+    ] {
+        let (client, backend) =
+            traded(&rt, alloc, file.as_str(), request.as_bytes(), reply.as_bytes())?;
+        assert_eq!(rt; client.as_slice(), to_client.as_bytes(), "{name}");
+        assert_eq!(rt; backend.as_slice(), to_backend.as_bytes(), "{name}");
+    }
+    Ok(())
+}
+
+// A wire with one client whose bytes come one by one, and two backends.
+fn slow_wire(alloc: Global, requests: &[u8]) -> Result<MemWire, AllocError>
+    ensures { IfOk result (λ wire. IsAlone (wire_view wire)) }
+{
+    let mut events = Vec::new(alloc);
+    for byte in requests {
+        events.push(ConnEvent::Piece(bytes(alloc, &[*byte])?))?;
+    }
+    let mut accepts = Vec::new(alloc);
+    if let Some(peer) = PeerText::new(b"10.0.0.7") {
+        accepts.push(AcceptEvent::Conn(
+            MemConn::new(1, events, Vec::new(alloc)),
+            peer,
+        ))?;
+    }
+    let mut dials = Vec::new(alloc);
+    dials.push(DialEvent::Conn(sends(alloc, 2, REPLY)?))?;
+    dials.push(DialEvent::Conn(sends(alloc, 3, REPLY)?))?;
+    let moments = vec![in alloc; Moment { from: 0, at: NOW }]?;
+    MemWire::new(
+        alloc,
+        Script {
+            accepts,
+            dials,
+            moments,
+            acts: 1_024,
+            bytes: 8_192,
+        },
+    )
+}
+
+// Ten requests behind one another, and what each is answered.
+const MIXED: [(&str, &str); 10] = [
+    (
+        "GET /hello?x=1 HTTP/1.1\r\nHost: example.com\r\nUser-Agent: curl/8.5.0\r\nAccept: */*\r\n\r\n",
+        "HTTP/1.1 200 OK\r\nContent-Length: 3\r\nContent-Type: text/plain\r\nDate: Sun, 06 Nov 1994 08:49:37 GMT\r\n\r\nhi\n",
+    ),
+    (
+        "GET /none HTTP/1.1\r\nHost: a\r\n\r\n",
+        "HTTP/1.1 404 Not Found\r\nContent-Length: 14\r\nDate: Sun, 06 Nov 1994 08:49:37 GMT\r\n\r\n404 Not Found\n",
+    ),
+    (
+        "HEAD /none HTTP/1.1\r\nHost: a\r\n\r\n",
+        "HTTP/1.1 404 Not Found\r\nContent-Length: 14\r\nDate: Sun, 06 Nov 1994 08:49:37 GMT\r\n\r\n",
+    ),
+    (
+        "POST /up HTTP/1.1\r\nHost: a\r\nContent-Length: 2\r\n\r\nok",
+        "HTTP/1.1 200 OK\r\nContent-Length: 3\r\nContent-Type: text/plain\r\nDate: Sun, 06 Nov 1994 08:49:37 GMT\r\n\r\nhi\n",
+    ),
+    (
+        "OPTIONS * HTTP/1.1\r\nHost: a\r\n\r\n",
+        "HTTP/1.1 200 OK\r\nContent-Length: 0\r\nDate: Sun, 06 Nov 1994 08:49:37 GMT\r\n\r\n",
+    ),
+    (
+        "GET /up HTTP/1.1\r\nHost: a\r\n\r\n",
+        "HTTP/1.1 405 Method Not Allowed\r\nAllow: POST\r\nContent-Length: 23\r\nDate: Sun, 06 Nov 1994 08:49:37 GMT\r\n\r\n405 Method Not Allowed\n",
+    ),
+    (
+        "GET /x//y HTTP/1.1\r\nHost: a\r\n\r\n",
+        "HTTP/1.1 301 Moved Permanently\r\nContent-Length: 0\r\nDate: Sun, 06 Nov 1994 08:49:37 GMT\r\nLocation: /x/y\r\n\r\n",
+    ),
+    (
+        "\r\nGET /none HTTP/1.1\r\nHost: a\r\nContent-Length: 0\r\n\r\n",
+        "HTTP/1.1 404 Not Found\r\nContent-Length: 14\r\nDate: Sun, 06 Nov 1994 08:49:37 GMT\r\n\r\n404 Not Found\n",
+    ),
+    (
+        "POST /up HTTP/1.1\r\nHost: a\r\nTransfer-Encoding: chunked\r\n\r\n2\r\nok\r\n0\r\n\r\n",
+        "HTTP/1.1 502 Bad Gateway\r\nContent-Length: 16\r\nDate: Sun, 06 Nov 1994 08:49:37 GMT\r\n\r\n502 Bad Gateway\n",
+    ),
+    (
+        "OPTIONS * HTTP/1.1\r\nHost: a\r\nConnection: close\r\n\r\n",
+        "HTTP/1.1 200 OK\r\nConnection: close\r\nContent-Length: 0\r\nDate: Sun, 06 Nov 1994 08:49:37 GMT\r\n\r\n",
+    ),
+];
+
+/// Requests behind one another are answered in their order, however they are cut; the third dial fails.
+#[test]
+fn pipeline(rt: HostRuntime) -> Result<(), Fail> {
+    let alloc = rt.alloc();
+    let file = file_of(alloc, &["/hello", "POST /up"])?;
+    let mut requests = Vec::new(alloc);
+    let mut replies = Vec::new(alloc);
+    for (request, reply) in MIXED {
+        requests.extend_from_slice(request.as_bytes())?;
+        replies.extend_from_slice(reply.as_bytes())?;
+    }
+    let mut world = world(alloc, file.as_bytes(), slow_wire(alloc, &requests)?)?;
+    let words = words(alloc, &["serve", "routes.json"])?;
+    let report = run_gateway(&rt, alloc, words.as_slice(), &mut world);
+    assert_eq!(rt; report.status, 0);
+    assert_eq!(rt; report.workers[0].entered, 10);
+    let acts = report.workers[0].wire.acts();
+    assert_eq!(rt; written_to(alloc, acts, 1)?.as_slice(), replies.as_slice());
+    assert_eq!(rt; written_to(alloc, acts, 2)?.as_slice(), PASSED_GET);
+    assert_eq!(rt;
+        written_to(alloc, acts, 3)?.as_slice(),
+        b"POST /up HTTP/1.1\r\nHost: a\r\nContent-Length: 2\r\nX-Forwarded-For: 10.0.0.7\r\n\r\nok".as_slice()
+    );
+    Ok(())
+}
+
+/// A base stands before the path.
+#[test]
+fn base_before_path(rt: HostRuntime) -> Result<(), Fail> {
+    let alloc = rt.alloc();
+    let file =
+        "{\"listen\":\"127.0.0.1:8080\",\"routes\":[{\"pattern\":\"/\",\"backend\":\"http://127.0.0.1:9000/api/\"}]}";
+    let (_, backend) = traded(
+        &rt,
+        alloc,
+        file,
+        b"GET /x?y HTTP/1.1\r\nHost: a\r\n\r\n",
+        REPLY,
+    )?;
+    assert_eq!(rt;
+        backend.as_slice(),
+        b"GET /api/x?y HTTP/1.1\r\nHost: a\r\nX-Forwarded-For: 10.0.0.7\r\n\r\n".as_slice()
+    );
     Ok(())
 }
 
@@ -463,9 +679,9 @@ fn hosts_and_backends(rt: HostRuntime) -> Result<(), Fail> {
 fn length_and_coding(rt: HostRuntime) -> Result<(), Fail> {
     let alloc = rt.alloc();
     let bad =
-        "HTTP/1.1 400 Bad Request\r\nConnection: close\r\nContent-Length: 16\r\n\r\n400 Bad Request\n";
+        "HTTP/1.1 400 Bad Request\r\nConnection: close\r\nContent-Length: 16\r\nDate: Sun, 06 Nov 1994 08:49:37 GMT\r\n\r\n400 Bad Request\n";
     let coding =
-        "HTTP/1.1 501 Not Implemented\r\nConnection: close\r\nContent-Length: 20\r\n\r\n501 Not Implemented\n";
+        "HTTP/1.1 501 Not Implemented\r\nConnection: close\r\nContent-Length: 20\r\nDate: Sun, 06 Nov 1994 08:49:37 GMT\r\n\r\n501 Not Implemented\n";
     let file = file_of(alloc, &["/"])?;
     for (head, text) in [
         (
@@ -482,11 +698,11 @@ fn length_and_coding(rt: HostRuntime) -> Result<(), Fail> {
         ),
         (
             "GET / HTTP/1.1\r\nHost: a\r\nExpect: gift\r\n\r\n",
-            "HTTP/1.1 417 Expectation Failed\r\nConnection: close\r\nContent-Length: 23\r\n\r\n417 Expectation Failed\n",
+            "HTTP/1.1 417 Expectation Failed\r\nConnection: close\r\nContent-Length: 23\r\nDate: Sun, 06 Nov 1994 08:49:37 GMT\r\n\r\n417 Expectation Failed\n",
         ),
         (
             "GET / HTTP/2.0\r\nHost: a\r\n\r\n",
-            "HTTP/1.1 505 HTTP Version Not Supported\r\nConnection: close\r\nContent-Length: 31\r\n\r\n505 HTTP Version Not Supported\n",
+            "HTTP/1.1 505 HTTP Version Not Supported\r\nConnection: close\r\nContent-Length: 31\r\nDate: Sun, 06 Nov 1994 08:49:37 GMT\r\n\r\n505 HTTP Version Not Supported\n",
         ),
     ] {
         let said = answered(&rt, alloc, file.as_str(), head.as_bytes())?;
@@ -501,8 +717,8 @@ fn largest_head(rt: HostRuntime) -> Result<(), Fail> {
     let alloc = rt.alloc();
     let file = file_of(alloc, &["/"])?;
     let refused =
-        b"HTTP/1.1 431 Request Header Fields Too Large\r\nConnection: close\r\nContent-Length: 36\r\n\r\n431 Request Header Fields Too Large\n";
-    for (letters, text) in [(65_504, REPLY), (65_505, refused.as_slice())] {
+        b"HTTP/1.1 431 Request Header Fields Too Large\r\nConnection: close\r\nContent-Length: 36\r\nDate: Sun, 06 Nov 1994 08:49:37 GMT\r\n\r\n431 Request Header Fields Too Large\n";
+    for (letters, text) in [(65_504, PASSED_REPLY), (65_505, refused.as_slice())] {
         let mut head = b"GET / HTTP/1.1\r\nHost: a\r\nX: ".to_vec(alloc)?;
         for _ in 0..letters {
             head.push(b'x')?;

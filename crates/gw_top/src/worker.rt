@@ -3,13 +3,12 @@
 ghost use Rattle.std.specs.Prelude.{◌≡◌, ◌<◌, length, true, false};
 ghost use Rattle.gw_wire.specs.Causes.{Rose};
 ghost use Rattle.gw_routes.specs.Files.{AreNumbered};
-ghost use Rattle.gw_top.specs.Leased.{IsVacant};
+ghost use Rattle.gw_session.specs.Leased.{IsVacant};
 ghost use Rattle.gw_top.specs.Run.{Worked};
 
-use crate::exchange::serve;
-use gw_head::HeadReader;
 use gw_pool::Leases;
 use gw_routes::Table;
+use gw_session::serve_connection;
 use gw_wire::{Accept, Wire};
 use std::alloc::Global;
 use std::sync::Wait;
@@ -34,11 +33,8 @@ pub fn work<R: Wait, W: Wire, L: Leases<W::Conn>>(
     worker: &mut Worker<W>,
     leases: &mut L,
     table: &Table,
-    reader: &mut HeadReader,
-    buf: &mut [u8],
 )
     requires fresh { (W.wire worker.old.wire).aged ≡ false }
-    requires room { 0 < length buf.old }
     requires vacant { IsVacant (L.lent leases.old) }
     requires numbered { AreNumbered table.now }
     requires hosts { (L.lent leases.old).limits.hosts ≡ length table.now.hosts.items }
@@ -52,9 +48,10 @@ pub fn work<R: Wait, W: Wire, L: Leases<W::Conn>>(
 {
     for _client in rt.forever() {
         match worker.wire.accept() {
-            Accept::Conn(client, _peer) => {
-                let began = serve(alloc, client, &mut worker.wire, leases, table, reader, buf);
-                worker.entered = worker.entered.saturating_add(u64::from(began));
+            Accept::Conn(client, peer) => {
+                let served =
+                    serve_connection(alloc, client, peer, &mut worker.wire, leases, table);
+                worker.entered = worker.entered.saturating_add(served.begun);
             }
             Accept::Tick => {}
             Accept::Ended => return,

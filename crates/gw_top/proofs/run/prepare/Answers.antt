@@ -1,5 +1,5 @@
 use Rattle.std.proofs.Common.{◌≡◌, arith, ◌∙◌}
-use Rattle.gw_top.proofs.PoolLemmas.{vacant_opened}
+use Rattle.gw_session.proofs.PoolLemmas.{vacant_opened}
 use Rattle.gw_top.proofs.run.prepare.Goals as goal
 
 pub returns-clause-ready : goal.returns-clause-ready
@@ -12,7 +12,6 @@ returns-clause-ready g c =
       vacant = vacant_opened c.in_ok-pool.pool c.args.table.limits made.seen made.out made.number made.limits alone (let o = c.requires.one in omega arith);
       seen = made.seen;
       mine = made.mine;
-      room = omega (arith, c.in_ok-vec.ensures.len);
       nobody = c.in_ok-with_capacity.ensures.items;
       place = omega (arith, c.in_ok-with_capacity.ensures.exact);
     }

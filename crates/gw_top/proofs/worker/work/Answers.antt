@@ -1,5 +1,5 @@
 use Rattle.std.proofs.Common.{ap, ◌∙◌, refl, ◌++◌, ◌∷◌, []}
-use Rattle.gw_top.proofs.RunLemmas.{serving_begins, serving_more, visit_of, worked_till_end, worked_till_failure, mark_is, counts_more}
+use Rattle.gw_top.proofs.RunLemmas.{serving_begins, serving_more, visit_of, worked_till_end, worked_till_failure}
 use Rattle.gw_top.proofs.worker.work.Goals as goal
 
 pub loop-client-init : goal.loop-client-init
@@ -9,10 +9,8 @@ pub loop-client-preserved-in-Conn : goal.loop-client-preserved-in-Conn
 loop-client-preserved-in-Conn g c =
     let i = c.loop-client.invariant in (
       (
-        i.0.0 ++ visit_of (g.W.Conn.Link.link c.in-Conn.client).number c.in-Conn._peer c.serve-began.ensures.turn ∷ [],
-        serving_more g.W.Conn.Link.link _ _ _ _ _ _ _ c.args.table.now _ _ i.0.0 c.in-Conn.client c.in-Conn._peer c.serve-began.result i.0.1 c.in-Conn.ensures c.serve-began.ensures
-            (counts_more c.loop-client.worker.entered _ c.from.result c.serve-began.result
-            (mark_is c.serve-began.result c.from.result (λ e. rw e at c.from.ensures) (λ e. rw e at c.from.ensures)) c.saturating_add-worker.ensures),
+        i.0.0 ++ visit_of (g.W.Conn.Link.link c.in-Conn.client).number c.in-Conn.peer c.serve_connection-served.result.ended c.serve_connection-served.ensures.turns ∷ [],
+        serving_more g.W.Conn.Link.link _ _ _ _ _ _ _ c.args.table.now _ _ i.0.0 c.in-Conn.client c.in-Conn.peer c.serve_connection-served.result i.0.1 c.in-Conn.ensures c.serve_connection-served.ensures c.saturating_add-worker.ensures,
       ),
       i.1,
       i.2,
@@ -26,5 +24,5 @@ pub returns-in-Failed-clause-worked : goal.returns-in-Failed-clause-worked
 returns-in-Failed-clause-worked g c =
     let i = c.loop-client.invariant in worked_till_failure g.W.Conn.Link.link _ _ _ _ _ c.args.table.now _ i.0.0 i.0.1 c.in-Failed.ensures
 
-pub serve-began-requires-clause-hosts : goal.serve-began-requires-clause-hosts
-serve-began-requires-clause-hosts g c = λ ks lives. ap (λ l. l.hosts) c.loop-client.invariant.0.1.grows.limits ∙ c.requires.hosts
+pub serve_connection-served-requires-clause-hosts : goal.serve_connection-served-requires-clause-hosts
+serve_connection-served-requires-clause-hosts g c = λ ks lives. ap (λ l. l.hosts) c.loop-client.invariant.0.1.grows.limits ∙ c.requires.hosts

@@ -1,0 +1,12 @@
+mod AttemptLemmas
+mod ExchangeLemmas
+mod GatherLemmas
+mod HearLemmas
+mod InboxLemmas
+mod LeaseLemmas
+mod PlanLemmas
+pub mod PoolLemmas
+pub mod SayLemmas
+pub mod SessionLemmas
+mod TurnLemmas
+pub mod WaitLemmas

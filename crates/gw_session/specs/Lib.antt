@@ -1,0 +1,12 @@
+pub mod Attempt
+pub mod Ending
+pub mod Exchange
+pub mod Gathering
+pub mod Hearing
+pub mod Inbox
+pub mod Leased
+pub mod Replies
+pub mod Routing
+pub mod Session
+pub mod Turn
+pub mod Waits
