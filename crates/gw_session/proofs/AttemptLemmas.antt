@@ -27,7 +27,7 @@ use Rattle.gw_session.specs.declared.waits.Loss.TheVariants as loss
 use Rattle.gw_session.specs.Attempt.{Attempts, TakesPart, HearsBehind, HearsReply, HearsRest, IsFinalHead, IsRefusedReply, is_final, lost_by}
 use Rattle.gw_session.specs.Hearing.{HearsWhile, HearsHead}
 use Rattle.gw_session.specs.Waits.{GoesOn, HeardStep, Writes, loss_acts}
-use Rattle.gw_session.proofs.WaitLemmas.{later_then, link_then}
+use Rattle.gw_session.proofs.HearLemmas.{behind_head, told_read}
 
 -- a head that is being heard: so many pieces came, and these bytes, of which nothing is decided
 pub record HeadHearing (link pieces : ℕ) (old new : Option (List Act)) (stream : List ℕ) : Type 0 where
@@ -35,24 +35,11 @@ pub record HeadHearing (link pieces : ℕ) (old new : Option (List Act)) (stream
   pub some : pieces ≤ length stream
   pub log : Told old new (HearsHead link [] stream)
 
--- a row of reads grows at its end where what came by then is wanting
-heard_more : (Wanting : List ℕ → Type 0) (k : ℕ) (kept bytes piece : List ℕ) (acts : List Act) → Wanting bytes → HearsWhile Wanting k kept bytes acts
-    → HearsWhile Wanting k kept (bytes ++ piece) (acts ++ Read k piece ∷ [])
-heard_more Wanting k kept bytes piece [] w h = (subst Wanting h w, piece, refl, ap (λ b. b ++ piece) h)
-heard_more Wanting k kept bytes piece (act ∷ acts) w h = (h.0, h.1, h.2, heard_more Wanting k (kept ++ h.1) bytes piece acts w h.3)
-
-told_piece : (old mid new : Option (List Act)) (k : ℕ) (stream piece : List ℕ) → IsUndecided stream → Told old mid (HearsHead k [] stream)
-    → Logs mid new (Read k piece ∷ []) → Told old new (HearsHead k [] (stream ++ piece))
-told_piece old mid new k stream piece u told logs =
-    Told-map old new (Then (HearsHead k [] stream) (Acts (Read k piece ∷ []))) (HearsHead k [] (stream ++ piece))
-    (λ l p. rw (p.2, p.4) (heard_more IsUndecided k [] stream piece p.0 u p.3))
-    (Told-then old mid new (HearsHead k [] stream) (Acts (Read k piece ∷ [])) told (Told-acts mid new (Read k piece ∷ []) logs))
-
 pub piece_heard : (old : Option (List Act)) (mid new : WireView) (k pieces : ℕ) (at to : LinkView) (stream piece : List ℕ) → at.number ≡ k
     → HeadHearing k pieces old mid.log stream → HeardStep mid new at to piece heard.Got → Told old new.log (HearsHead k [] (stream ++ piece))
 piece_heard old mid new k pieces at to stream piece is h t =
     let logs : Logs mid.log new.log (Read k piece ∷ []) = rw (← is) t.log in
-    told_piece old mid.log new.log k stream piece h.undecided h.log logs
+    told_read IsUndecided old mid.log new.log k [] stream piece h.log h.undecided logs
 
 pub more_heard : (old new : Option (List Act)) (k pieces used : ℕ) (stream piece : List ℕ) (stage : Stage) → pieces ≤ length stream → 0 < length piece
     → Told old new (HearsHead k [] (stream ++ piece)) → Undecided stream piece used stage → HeadHearing k (pieces + 1) old new (stream ++ piece)
@@ -80,16 +67,11 @@ lost_heard old mid new k pieces at to stream piece method why result e is h t =
     let told = Told-then old mid.log new.log (HearsHead k [] stream) (Acts (loss_acts k why)) h.log (Told-acts mid.log new.log (loss_acts k why) logs) in
     subst (λ r. Told old new.log (HearsReply k method r)) (sym e) (lost_by_cases old new.log k stream method why h.undecided told)
 
--- a head in front of what came behind it
-behind_head : (used : ℕ) (stream piece : List ℕ) → stream ++ piece ≡ (stream ++ take used piece) ++ drop used piece
-behind_head used stream piece =
-    ap (λ p. stream ++ p) (sym (take-append-drop used piece)) ∙ sym (append_assoc stream (take used piece) (drop used piece))
-
 refused_by : (used : ℕ) (stream piece : List ℕ) (error : HeadError) (stage : Stage) → Refuses BadReplyHead stream piece used error stage
     → IsRefusedReply (stream ++ piece)
 refused_by used stream piece error stage r =
     elim r.cause [
-      | inl c ↦ inl (stream ++ take used piece, drop used piece, behind_head used stream piece, inl (error, c.1))
+      | inl c ↦ inl (stream ++ take used piece, drop used piece, sym (behind_head stream piece used), inl (error, c.1))
       | inr c ↦ inr c.0
     ]
 
@@ -105,7 +87,7 @@ pub early_heard : (old new : Option (List Act)) (k used : ℕ) (stream piece met
     → Told old new (HearsReply k method answered.Broken)
 early_heard old new k used stream piece method head stage told g early =
     Told-map old new (HearsHead k [] (stream ++ piece)) (HearsReply k method answered.Broken)
-    (λ l p. inl (stream ++ piece, inl (stream ++ take used piece, drop used piece, behind_head used stream piece, inr (head, g.is_head, early)), p)) told
+    (λ l p. inl (stream ++ piece, inl (stream ++ take used piece, drop used piece, sym (behind_head stream piece used), inr (head, g.is_head, early)), p)) told
 
 pub want_heard : (old new : Option (List Act)) (k : ℕ) (bytes method : List ℕ) → Told old new (HearsHead k [] bytes)
     → Told old new (HearsReply k method answered.NoMemory)
@@ -142,20 +124,11 @@ pub rest_heard : (old mid new : Option (List Act)) (k used : ℕ) (stream piece 
     → Told mid new (HearsRest k head method kept result) → Told old new (HearsReply k method result)
 rest_heard old mid new k used stream piece kept method head stage result e final told g rest =
     let front = stream ++ take used piece in
-    let all : stream ++ piece ≡ front ++ kept = rw e (behind_head used stream piece) in
+    let all : stream ++ piece ≡ front ++ kept = rw e (sym (behind_head stream piece used)) in
     Told-map old new (Then (HearsHead k [] (front ++ kept)) (HearsRest k head method kept result)) (HearsReply k method result)
     (λ l p. joined k front kept method head result (record { head_of = g.is_head; final = final }) l p)
     (Told-then old mid new (HearsHead k [] (front ++ kept)) (HearsRest k head method kept result)
     (subst (λ b. Told old mid (HearsHead k [] b)) all told) rest)
-
--- one more wait
-pub goes_on : (old mid new : WireView) (first at to : LinkView) (piece : List ℕ) (r : Heard) → GoesOn old mid first at
-    → HeardStep mid new at to piece r → GoesOn old new first to
-goes_on old mid new first at to piece r g t = record {
-  later = later_then old mid new g.later t.later;
-  link = link_then first at to g.link t.link;
-  fresh = t.fresh;
-}
 
 -- an attempt of the two kinds
 pub passed_on : (old mid new : Option (List Act)) (k : ℕ) (text method : List ℕ) (result : Answered) → Told old mid (Writes k text)

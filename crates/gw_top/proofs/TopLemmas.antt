@@ -25,7 +25,8 @@ use Rattle.gw_session.specs.declared.end.Next.{Next}
 use Rattle.gw_session.specs.declared.end.Next.TheVariants.{Again, End}
 use Rattle.gw_session.specs.Exchange.{Exchanges, sent_text}
 use Rattle.gw_session.specs.Replies.{SaidActs}
-use Rattle.gw_session.specs.Session.{Behind, Serves, is_last}
+use Rattle.gw_session.specs.Session.{Behind, is_last}
+use Rattle.gw_session.specs.Session.{Serves as ServesTurns}
 use Rattle.gw_session.specs.Turn.{Deed, Undecided, Owned, Stopped, Faulty, Passed, Deeds, HearsUpload, Turn, Unheard, Refused, Heard, Turned, turn_next}
 use Rattle.gw_session.proofs.SayLemmas.{rises_from, rises_to}
 use Rattle.gw_top.specs.declared.run.Report.{Report}
@@ -109,7 +110,7 @@ turn_along : (groups others : Addr → List Addr) → ((address : Addr) → grou
 turn_along groups others same client peer table last kept ahead (Unheard heard) l t = t
 turn_along groups others same client peer table last kept ahead (Refused error said) l t = t
 turn_along groups others same client peer table last kept ahead (Heard text head deed) l t =
-    (t.0, t.1, t.2, t.3, t.4, deed_along groups others same client peer table last head t.0 ahead deed t.2 t.5)
+    (t.0, (t.1.0, t.1.1, t.1.2, t.1.3, deed_along groups others same client peer table last head t.0 ahead deed t.1.1 t.1.4))
 
 behind_along : (next : Next) (P Q : List Act → Type 0) (result : Ended) (turns : List Turn) (l : List Act) → ((m : List Act) → P m → Q m)
     → Behind next P result turns l → Behind next Q result turns l
@@ -117,12 +118,17 @@ behind_along Again P Q result turns l f b = f l b
 behind_along (End why) P Q result turns l f b = b
 
 serves_along : (groups others : Addr → List Addr) → ((address : Addr) → groups address ≡ others address) → (client : ℕ) (peer : List ℕ) (table : Table) (number : ℕ) (kept : List ℕ) (result : Ended) (turns : List Turn) (l : List Act)
-    → Serves client peer groups table number kept result turns l → Serves client peer others table number kept result turns l
+    → ServesTurns client peer groups table number kept result turns l → ServesTurns client peer others table number kept result turns l
 serves_along groups others same client peer table number kept result [] l s = s
 serves_along groups others same client peer table number kept result (turn ∷ turns) l s =
-    (s.0, s.1, s.2, s.3, turn_along groups others same client peer table (is_last number) kept s.0 turn s.1 s.4,
-    behind_along (turn_next (is_last number) turn) (Serves client peer groups table (number + 1) s.0 result turns) (Serves client peer others table (number + 1) s.0 result turns) result turns s.2
-    (λ m p. serves_along groups others same client peer table (number + 1) s.0 result turns m p) s.5)
+    (s.0, (
+      s.1.0,
+      s.1.1,
+      s.1.2,
+      turn_along groups others same client peer table (is_last number) kept s.0 turn s.1.0 s.1.3,
+      behind_along (turn_next (is_last number) turn) (ServesTurns client peer groups table (number + 1) s.0 result turns) (ServesTurns client peer others table (number + 1) s.0 result turns) result turns s.1.1
+          (λ m p. serves_along groups others same client peer table (number + 1) s.0 result turns m p) s.1.4,
+    ))
 
 visited_along : (groups others : Addr → List Addr) → ((address : Addr) → groups address ≡ others address) → (table : Table) (v : Visit) (l : List Act)
     → Visited groups table v l → Visited others table v l

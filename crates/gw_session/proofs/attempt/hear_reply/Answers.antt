@@ -1,7 +1,8 @@
 use Rattle.std.proofs.Common.{◌++◌, ◌∙◌}
 use Rattle.gw_head.proofs.FeedLemmas.{brought}
 use Rattle.gw_head.specs.Head.{ReplyHeadOf, BadReplyHead}
-use Rattle.gw_session.proofs.AttemptLemmas.{piece_heard, more_heard, lost_heard, refusal_heard, early_heard, want_heard, rest_heard, used_whole, final_head, early_head, goes_on}
+use Rattle.gw_session.proofs.AttemptLemmas.{piece_heard, more_heard, lost_heard, refusal_heard, early_heard, want_heard, rest_heard, used_whole, final_head, early_head}
+use Rattle.gw_session.proofs.HearLemmas.{goes_on}
 use Rattle.gw_session.proofs.attempt.hear_reply.Goals as goal
 
 pub returns-in-Lost-clause-log : goal.returns-in-Lost-clause-log
