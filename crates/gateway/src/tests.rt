@@ -28,8 +28,10 @@ const REPLY: &[u8] = b"HTTP/1.1 200 OK\r\nContent-Length: 3\r\n\r\nhi\n";
 
 // How the replies to the two begin and end; between are their dates.
 const BEGIN: &[u8] = b"HTTP/1.1 404 Not Found\r\nContent-Length: 14\r\nDate: ";
+
 const MIDDLE: &[u8] =
     b" GMT\r\n\r\n404 Not Found\nHTTP/1.1 200 OK\r\nConnection: close\r\nContent-Length: 3\r\nDate: ";
+
 const END: &[u8] = b" GMT\r\n\r\nhi\n";
 
 // How many bytes a date has before its zone.
@@ -99,7 +101,7 @@ fn are_replies(heard: &[u8]) -> bool {
     heard.len() == end + END.len()
         && heard.starts_with(BEGIN)
         && heard[middle..].starts_with(MIDDLE)
-        && heard[end..] == *END
+        && heard[end..].starts_with(END)
 }
 
 // A world of this route file, whose listener is the wire's.

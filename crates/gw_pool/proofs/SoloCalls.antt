@@ -93,7 +93,7 @@ holds_made core core' t t' host now v h m o r =
     holds_after core core' t t' 0 (call.Want host now) m.outcome (t.out ++ ticket_of v ∷ []) h refl m.enters r o
     (rw same (tie_made core.limits (state_at core) t.out core.taken core'.taken host now v h.tied (rw same at m.is_made) m.enters.taken))
 
-gone_some : {C : Type 0} (link : C → LinkView) (conn : C) (o : Option ConnRow) → IsOf link conn o → (r : ConnRow) × (o ≡ Some r)
+pub gone_some : {C : Type 0} (link : C → LinkView) (conn : C) (o : Option ConnRow) → IsOf link conn o → (r : ConnRow) × (o ≡ Some r)
 gone_some link conn None i = absurd i
 gone_some link conn (Some r) i = (r, refl)
 
@@ -130,7 +130,7 @@ none_dials : (w : ℕ) (xs : List DialRow) → find (dials_for w) xs ≡ None �
 none_dials w [] e = refl
 none_dials w (x ∷ xs) e = none_dials_by w x xs (dials_for w x) refl e (none_dials w xs)
 
-some_dial : (w : ℕ) (xs : List DialRow) (o : Option DialRow) → find (dials_for w) xs ≡ o → dials_of w xs ≡ 1 → IsSome o
+pub some_dial : (w : ℕ) (xs : List DialRow) (o : Option DialRow) → find (dials_for w) xs ≡ o → dials_of w xs ≡ 1 → IsSome o
 some_dial w xs None f e = absurd (omega (arith, none_dials w xs f, e))
 some_dial w xs (Some r) f e = refl
 
@@ -184,7 +184,7 @@ none_rows s w (Some c) r a b e = absurd (cc)
 none_rows s w None (Some r) a b e = absurd (stage_coming r.stage e)
 none_rows s w None None a b e = (b, a)
 
-not_coming_rows : (s : State) (w : ℕ) → standing s w ≡ NotComing → (find (wants_it w) s.wants ≡ None) × (find (is_with w) s.conns ≡ None)
+pub not_coming_rows : (s : State) (w : ℕ) → standing s w ≡ NotComing → (find (wants_it w) s.wants ≡ None) × (find (is_with w) s.conns ≡ None)
 unfolding standing
 not_coming_rows s w e = none_rows s w (find (is_with w) s.conns) (find (wants_it w) s.wants) refl refl e
 
@@ -204,7 +204,7 @@ served_by s w row (Some c) r a e = let same : c ≡ row = cc in a ∙ ap (λ x. 
 served_by s w row None (Some r) a e = absurd (stage_served r.stage row e)
 served_by s w row None None a e = absurd (cc)
 
-served_row : (s : State) (w : ℕ) (row : ConnRow) → standing s w ≡ Served row → find (is_with w) s.conns ≡ Some row
+pub served_row : (s : State) (w : ℕ) (row : ConnRow) → standing s w ≡ Served row → find (is_with w) s.conns ≡ Some row
 unfolding standing
 served_row s w row e = served_by s w row (find (is_with w) s.conns) (find (wants_it w) s.wants) refl e
 
@@ -430,7 +430,7 @@ want_full core core' t n h e f = record {
   leaves = record { out = refl; waits = refl };
 }
 
-row_eq : (row : ConnRow) (number host link w : ℕ) (reused : Bool) → number ≡ row.conn → host ≡ row.host → link ≡ row.link → reused ≡ row.reused → row.place ≡ Out w 0 → row ≡ record { conn = number; host = host; link = link; reused = reused; place = Out w 0 }
+pub row_eq : (row : ConnRow) (number host link w : ℕ) (reused : Bool) → number ≡ row.conn → host ≡ row.host → link ≡ row.link → reused ≡ row.reused → row.place ≡ Out w 0 → row ≡ record { conn = number; host = host; link = link; reused = reused; place = Out w 0 }
 row_eq row number host link w reused a b c d p = rw (a, b, c, d, ← p) refl
 
 pub ask_taken : {C : Type 0} (link : C → LinkView) (core core' : CoreView) (t t' : TokensView) (n : ℕ) (ticket : Ticket) (conn : C) (number : ℕ) (reused : Bool) (host linked : ℕ) → SoloHolds core t → CoreTaken link core core' ticket.want conn number reused host → linked ≡ (link conn).number → has_ticket ticket.want t.out ≡ true → t'.out ≡ change ticket.want leased t.out → has_lease ticket.want t'.out ≡ true → lent.AskTaken link (lent_of core t n) (lent_of core' t' n) ticket (record { conn = conn; no = number; want = ticket.want; host = host; link = linked; reused = reused })

@@ -91,13 +91,13 @@ lease_by : (h : Holding) (b : Bool) → is_held h ≡ b → holds (λ x. x.lease
 lease_by h true e = refl
 lease_by h false e = no_lease h.ticket h.dial h.lease e
 
-kept_ticket : (h : Holding) → holds (λ x. x.ticket) (kept h) ≡ h.ticket
+pub kept_ticket : (h : Holding) → holds (λ x. x.ticket) (kept h) ≡ h.ticket
 kept_ticket h = ticket_by h (is_held h) refl
 
-kept_dial : (h : Holding) → holds (λ x. x.dial) (kept h) ≡ h.dial
+pub kept_dial : (h : Holding) → holds (λ x. x.dial) (kept h) ≡ h.dial
 kept_dial h = dial_by h (is_held h) refl
 
-kept_lease : (h : Holding) → holds (λ x. x.lease) (kept h) ≡ h.lease
+pub kept_lease : (h : Holding) → holds (λ x. x.lease) (kept h) ≡ h.lease
 kept_lease h = lease_by h (is_held h) refl
 
 same_dials : (s t : State) (w : ℕ) → t.dials ≡ s.dials → (v : ℕ) → (v ≡ w → ⊥) → dials_of v t.dials ≡ dials_of v s.dials
@@ -128,7 +128,7 @@ untaken_row s out taken w h k e t = let l = k.untaken w in (rw e at l) t
 pub ticket_untaken : (s : State) (out : List Holding) (taken : List ℕ) (w : ℕ) → Tied s out taken → has_ticket w out ≡ true → is_taken w taken ≡ false
 ticket_untaken s out taken w k h = k.untaken w h
 
-stage_one : (w : ℕ) (stage : Stage) (n : ℕ) → n ≡ w → stage_weight (occ_of w) stage n ≡ 1
+pub stage_one : (w : ℕ) (stage : Stage) (n : ℕ) → n ≡ w → stage_weight (occ_of w) stage n ≡ 1
 stage_one w Waiting n e = ap (one w) e ∙ one_same w
 stage_one w Granted n e = ap (one w) e ∙ one_same w
 stage_one w Dialing n e = ap (one w) e ∙ one_same w
@@ -139,7 +139,7 @@ dia_one w Granted n g e = ap (one w) e ∙ one_same w
 dia_one w Dialing n g e = absurd (cc)
 
 -- a want that may dial has no dial
-undialed_dials : (w : ℕ) (s : State) (row : WantRow) → find (wants_it w) s.wants ≡ Some row → is_granted row.stage ≡ true → row.want ≡ w → weight (dia_of w) s ≤ 1 → dials_of w s.dials ≡ 0
+pub undialed_dials : (w : ℕ) (s : State) (row : WantRow) → find (wants_it w) s.wants ≡ Some row → is_granted row.stage ≡ true → row.want ≡ w → weight (dia_of w) s ≤ 1 → dials_of w s.dials ≡ 0
 unfolding weight
 undialed_dials w s row f g e l = omega (arith, removed (want_weight (dia_of w)) (wants_it w) s.wants row f, dia_one w row.stage row.want g e, l)
 
@@ -173,7 +173,7 @@ no_conn : (w : ℕ) (xs : List ConnRow) → find (is_with w) xs ≡ None → sum
 no_conn w [] e = refl
 no_conn w (x ∷ xs) e = no_conn_by w x xs (is_with w x) refl e (no_conn w xs)
 
-nothing_there : (w : ℕ) (s : State) → find (wants_it w) s.wants ≡ None → find (is_with w) s.conns ≡ None → weight (occ_of w) s ≡ 0
+pub nothing_there : (w : ℕ) (s : State) → find (wants_it w) s.wants ≡ None → find (is_with w) s.conns ≡ None → weight (occ_of w) s ≡ 0
 unfolding weight
 nothing_there w s nw nc = omega (arith, no_want w s.wants nw, no_conn w s.conns nc, no_dials s.dials)
 
@@ -301,10 +301,10 @@ tie_start s out taken taken' w row k f g l tk =
     (λ v n u. tk v u)
 
 -- a dial that ends
-gone_dials : (s t : State) (w v : ℕ) (row : DialRow) → t.dials ≡ remove_first (dials_for row.want) s.dials → find (dials_for row.want) s.dials ≡ Some row → dials_of v t.dials + one v row.want ≡ dials_of v s.dials
+pub gone_dials : (s t : State) (w v : ℕ) (row : DialRow) → t.dials ≡ remove_first (dials_for row.want) s.dials → find (dials_for row.want) s.dials ≡ Some row → dials_of v t.dials + one v row.want ≡ dials_of v s.dials
 gone_dials s t w v row e f = rw e (removed (λ (r : DialRow). one v r.want) (dials_for row.want) s.dials row f)
 
-dial_found : (want : ℕ) (s : State) (row : DialRow) → find (dials_for want) s.dials ≡ Some row → find (dials_for row.want) s.dials ≡ Some row
+pub dial_found : (want : ℕ) (s : State) (row : DialRow) → find (dials_for want) s.dials ≡ Some row → find (dials_for row.want) s.dials ≡ Some row
 dial_found want s row f = let same : row.want ≡ want = eqb-true row.want want (found_passes (dials_for want) s.dials row f) in
     let P : ℕ → Type 0 = λ n. find (dials_for n) s.dials ≡ Some row in
     subst P (sym same) f

@@ -72,16 +72,16 @@ unfolding want_step take_newest
 gone_want limits s caller host now r g = gone_by limits s caller host now r (take_stamped_for s host (newest_stamp s host)) (next_by s host (newest_stamp s host)) g
 
 -- a want adds at most its own weight
-adds_at_most : (g : Weigh) (limits : Limits) (s : State) (caller host now : ℕ) → weight g (want_step limits s caller host now).state ≤ weight g s + g.want s.next_want
+pub adds_at_most : (g : Weigh) (limits : Limits) (s : State) (caller host now : ℕ) → weight g (want_step limits s caller host now).state ≤ weight g s + g.want s.next_want
 adds_at_most g limits s caller host now = elim (want_adds g limits s caller host now) [ inl k ↦ omega (arith, k.weight) | inr a ↦ omega (arith, a.weight) ]
 
-adds_none : (g : Weigh) (limits : Limits) (s : State) (caller host now : ℕ) → (want_step limits s caller host now).state.next_want ≡ s.next_want → weight g (want_step limits s caller host now).state ≤ weight g s
+pub adds_none : (g : Weigh) (limits : Limits) (s : State) (caller host now : ℕ) → (want_step limits s caller host now).state.next_want ≡ s.next_want → weight g (want_step limits s caller host now).state ≤ weight g s
 adds_none g limits s caller host now e = elim (want_adds g limits s caller host now) [ inl k ↦ omega (arith, k.weight) | inr a ↦ absurd (omega (arith, a.next_want, e)) ]
 
-want_conn : (limits : Limits) (s : State) (caller host now : ℕ) → (want_step limits s caller host now).state.next_conn ≡ s.next_conn
+pub want_conn : (limits : Limits) (s : State) (caller host now : ℕ) → (want_step limits s caller host now).state.next_conn ≡ s.next_conn
 want_conn limits s caller host now = elim (want_adds (con_of 0) limits s caller host now) [ inl k ↦ k.next_conn | inr a ↦ a.next_conn ]
 
-want_dials : (limits : Limits) (s : State) (caller host now : ℕ) → (want_step limits s caller host now).state.dials ≡ s.dials
+pub want_dials : (limits : Limits) (s : State) (caller host now : ℕ) → (want_step limits s caller host now).state.dials ≡ s.dials
 want_dials limits s caller host now = elim (want_adds (con_of 0) limits s caller host now) [ inl k ↦ k.dials | inr a ↦ a.dials ]
 
 pub tie_expired : (limits : Limits) (s : State) (out : List Holding) (taken taken' : List ℕ) (host now : ℕ) (r : ConnRow) → Tied s out taken → (want_step limits s 0 host now).gone ≡ Some r → LeavesTaken taken taken' → Tied (want_step limits s 0 host now).state out taken'
@@ -110,7 +110,7 @@ find_push_step : (v : ℕ) (x h : Holding) (xs : List Holding) (b : Bool) → (f
 find_push_step v x h xs true k = refl
 find_push_step v x h xs false k = k
 
-find_push_other : (v w : ℕ) (xs : List Holding) → (v ≡ w → ⊥) → find (names v) (xs ++ ticket_of w ∷ []) ≡ find (names v) xs
+pub find_push_other : (v w : ℕ) (xs : List Holding) → (v ≡ w → ⊥) → find (names v) (xs ++ ticket_of w ∷ []) ≡ find (names v) xs
 find_push_other v w [] n = rw (ne_eqb w v (λ e. n (sym e)))
 find_push_other v w (x ∷ xs) n = find_push_step v x (ticket_of w) xs (names v x) (find_push_other v w xs n)
 
@@ -118,7 +118,7 @@ push_here_step : (w : ℕ) (x : Holding) (xs : List Holding) (b : Bool) → cond
 push_here_step w x xs true e k = absurd (cc)
 push_here_step w x xs false e k = k e
 
-find_push_here : (w : ℕ) (xs : List Holding) → find (names w) xs ≡ None → find (names w) (xs ++ ticket_of w ∷ []) ≡ Some (ticket_of w)
+pub find_push_here : (w : ℕ) (xs : List Holding) → find (names w) xs ≡ None → find (names w) (xs ++ ticket_of w ∷ []) ≡ Some (ticket_of w)
 find_push_here w [] e = rw (eq-eqb w w refl)
 find_push_here w (x ∷ xs) e = push_here_step w x xs (names w x) e (find_push_here w xs)
 
@@ -126,7 +126,7 @@ count_none_by : (w : ℕ) (x : Holding) (xs : List Holding) (b : Bool) → names
 count_none_by w x xs true p e k = absurd (cc)
 count_none_by w x xs false p e k = let zero_here : one w x.want ≡ 0 = (rw p) in omega (arith, sum_by-cons (λ (h : Holding). one w h.want) x xs, zero_here, k e)
 
-count_none : (w : ℕ) (xs : List Holding) → find (names w) xs ≡ None → count_names w xs ≡ 0
+pub count_none : (w : ℕ) (xs : List Holding) → find (names w) xs ≡ None → count_names w xs ≡ 0
 count_none w [] e = refl
 count_none w (x ∷ xs) e = count_none_by w x xs (names w x) refl e (count_none w xs)
 
@@ -182,11 +182,11 @@ or_true : (a b : Bool) → b ≡ true → (a || b) ≡ true
 or_true true b h = refl
 or_true false b h = h
 
-or_cases : (a b : Bool) → (a || b) ≡ true → (a ≡ true) ⊎ (b ≡ true)
+pub or_cases : (a b : Bool) → (a || b) ≡ true → (a ≡ true) ⊎ (b ≡ true)
 or_cases true b h = inl refl
 or_cases false b h = inr h
 
-in_append : (w : ℕ) (xs ys : List ℕ) → In w (xs ++ ys) → In w xs ⊎ In w ys
+pub in_append : (w : ℕ) (xs ys : List ℕ) → In w (xs ++ ys) → In w xs ⊎ In w ys
 in_append w [] ys h = inr h
 in_append w (x ∷ xs) ys h = elim (or_cases (x == w) (list_any (λ y. y == w) (xs ++ ys)) h) [
   | inl e ↦ inl (rw e)
@@ -238,7 +238,7 @@ stage_at w row e = stage_by w row.stage row.want e
 place_at : (w : ℕ) (row : ConnRow) → is_with w row ≡ true → 1 ≤ conn_weight (occ_of w) row
 place_at w row e = omega (arith, place_by w row.place e)
 
-unit_weight : (s : State) (caller w : ℕ) → In w (map (λ (row : WantRow). row.want) (filter (λ (row : WantRow). row.caller == caller) s.wants) ++ map (λ (row : DialRow). row.want) (filter (λ (row : DialRow). row.caller == caller) s.dials) ++ filter_map (λ (row : ConnRow). out_want caller row.place) s.conns) → 1 ≤ weight (occ_of w) s + dials_of w s.dials
+pub unit_weight : (s : State) (caller w : ℕ) → In w (map (λ (row : WantRow). row.want) (filter (λ (row : WantRow). row.caller == caller) s.wants) ++ map (λ (row : DialRow). row.want) (filter (λ (row : DialRow). row.caller == caller) s.dials) ++ filter_map (λ (row : ConnRow). out_want caller row.place) s.conns) → 1 ≤ weight (occ_of w) s + dials_of w s.dials
 unfolding weight
 unit_weight s caller w h = elim (in_append w (map (λ (row : WantRow). row.want) (filter (λ (row : WantRow). row.caller == caller) s.wants) ++ map (λ (row : DialRow). row.want) (filter (λ (row : DialRow). row.caller == caller) s.dials)) (filter_map (λ (row : ConnRow). out_want caller row.place) s.conns) h) [
   | inl a ↦ elim (in_append w (map (λ (row : WantRow). row.want) (filter (λ (row : WantRow). row.caller == caller) s.wants)) (map (λ (row : DialRow). row.want) (filter (λ (row : DialRow). row.caller == caller) s.dials)) a) [
@@ -280,7 +280,7 @@ pigeon_step : (x : ℕ) (xs : List ℕ) (out : List Holding) (b : Bool) → list
 pigeon_step x xs out true e h k = k out (λ w m. h w (or_true (x == w) (list_any (λ y. y == w) xs) m))
 pigeon_step x xs out false e h k = pigeon_found x xs out (find (names x) out) refl e h k
 
-pigeon : (xs : List ℕ) (out : List Holding) → ((w : ℕ) → In w xs → find (names w) out ≡ None → ⊥) → length (distinct xs) ≤ length out
+pub pigeon : (xs : List ℕ) (out : List Holding) → ((w : ℕ) → In w xs → find (names w) out ≡ None → ⊥) → length (distinct xs) ≤ length out
 pigeon [] out h = omega arith
 pigeon (x ∷ xs) out h = pigeon_step x xs out (list_any (λ y. y == x) xs) refl h (λ o g. pigeon xs o g)
 
@@ -303,7 +303,7 @@ by_number_step n p x r xs false true e f q g l k =
     let theirs : 1 ≤ sum_by (conn_weight (con_of n)) xs = weighs_among n r xs q (found_among p r xs g) in
     absurd (omega (arith, sum_by-cons (conn_weight (con_of n)) x xs, mine, theirs, l))
 
-by_number : (n : ℕ) (p : ConnRow → Bool) (r : ConnRow) (xs : List ConnRow) → has_number n r ≡ true → find p xs ≡ Some r → sum_by (conn_weight (con_of n)) xs ≤ 1 → find (has_number n) xs ≡ Some r
+pub by_number : (n : ℕ) (p : ConnRow → Bool) (r : ConnRow) (xs : List ConnRow) → has_number n r ≡ true → find p xs ≡ Some r → sum_by (conn_weight (con_of n)) xs ≤ 1 → find (has_number n) xs ≡ Some r
 by_number n p r [] q g l = absurd (cc)
 by_number n p r (x ∷ xs) q g l = by_number_step n p x r xs (p x) (has_number n x) refl refl q g l (λ e m. by_number n p r xs q e m)
 
@@ -328,7 +328,7 @@ all_idle : (xs : List ConnRow) → ((w : ℕ) → sum_by (conn_weight (occ_of w)
 all_idle [] h = refl
 all_idle (x ∷ xs) h = rw (idle_place x.place (λ w. omega (arith, h w, sum_by-cons (conn_weight (occ_of w)) x xs))) (all_idle xs (λ w. omega (arith, h w, sum_by-cons (conn_weight (occ_of w)) x xs)))
 
-quiet_of : (s : State) → ((w : ℕ) → weight (occ_of w) s ≤ 0) → ((w : ℕ) → dials_of w s.dials ≡ 0) → IsQuiet s
+pub quiet_of : (s : State) → ((w : ℕ) → weight (occ_of w) s ≤ 0) → ((w : ℕ) → dials_of w s.dials ≡ 0) → IsQuiet s
 unfolding weight
 quiet_of s h d = record {
   wants = no_wants s.wants (λ w. omega (arith, h w));

@@ -18,7 +18,7 @@ mod wants;
 
 pub use answers::{Closed, CoreAsk, CoreWant};
 pub use entry::{Call, Entry, Offer, Reply};
-pub use holding::Holding;
+pub use holding::{Holding, Tokens};
 pub use laws::{
     connections_are_taken_back, dialed_connections_are_somewhere, journal_has_room,
     least_wants_come_first, limits_hold, nothing_is_held_back, wants_are_served_once,

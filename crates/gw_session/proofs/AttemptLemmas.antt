@@ -1,9 +1,8 @@
 -- Steps of an attempt, over plain variables.
-use Rattle.std.proofs.Common.{◌≡◌, ◌≤◌, ◌<◌, ◌+◌, inl, inr, ℕ, List, [], ◌∷◌, ◌++◌, length, take, drop, Option, true, false, refl, ap, sym, ◌∙◌, subst, arith, append_assoc, length-append}
+use Rattle.std.proofs.Common.{◌≡◌, ◌≤◌, ◌<◌, ◌+◌, inl, inr, ℕ, List, [], ◌∷◌, ◌++◌, length, take, drop, Option, true, false, ap, sym, ◌∙◌, subst, arith, length-append}
 use Rattle.std.proofs.Math.Seq.{drop-length}
 use Rattle.std.proofs.lemmas.Bool.{le-leb}
 use Rattle.std.proofs.lemmas.Bool.Decides.{nat_tests}
-use Rattle.std.proofs.lemmas.List.{take-append-drop}
 use Rattle.gw_wire.specs.declared.values.Act.{Act}
 use Rattle.gw_wire.specs.declared.values.Act.TheVariants.{Read}
 use Rattle.gw_wire.specs.Acts.{Logs}
@@ -20,13 +19,12 @@ use Rattle.gw_body.specs.Framing.{reply_framing_of}
 use Rattle.gw_session.specs.declared.attempt.Answered.{Answered}
 use Rattle.gw_session.specs.declared.attempt.Answered.TheVariants as answered
 use Rattle.gw_session.specs.declared.gather.Gathered.TheVariants as gathered
-use Rattle.gw_session.specs.declared.waits.Heard.{Heard}
 use Rattle.gw_session.specs.declared.waits.Heard.TheVariants as heard
 use Rattle.gw_session.specs.declared.waits.Loss.{Loss}
 use Rattle.gw_session.specs.declared.waits.Loss.TheVariants as loss
 use Rattle.gw_session.specs.Attempt.{Attempts, TakesPart, HearsBehind, HearsReply, HearsRest, IsFinalHead, IsRefusedReply, is_final, lost_by}
-use Rattle.gw_session.specs.Hearing.{HearsWhile, HearsHead}
-use Rattle.gw_session.specs.Waits.{GoesOn, HeardStep, Writes, loss_acts}
+use Rattle.gw_session.specs.Hearing.{HearsHead}
+use Rattle.gw_session.specs.Waits.{HeardStep, Writes, loss_acts}
 use Rattle.gw_session.proofs.HearLemmas.{behind_head, told_read}
 
 -- a head that is being heard: so many pieces came, and these bytes, of which nothing is decided

@@ -1,5 +1,5 @@
 -- An exchange, call after call, over plain variables.
-use Rattle.std.proofs.Common.{◌≡◌, ℕ, true, false, List, [], ◌∷◌, ◌++◌, Option, refl, ap, sym, ◌∙◌, subst, arith, append_assoc, append-nil}
+use Rattle.std.proofs.Common.{◌≡◌, ℕ, false, List, [], ◌∷◌, ◌++◌, Option, refl, ap, sym, ◌∙◌, subst, arith, append_assoc, append-nil}
 use Rattle.gw_wire.specs.declared.values.Act.{Act}
 use Rattle.gw_wire.specs.declared.values.Act.TheVariants.{Closed}
 use Rattle.gw_wire.specs.declared.values.Addr.{Addr}
@@ -14,7 +14,7 @@ use Rattle.gw_session.specs.declared.attempt.Answered.{Answered as Tried}
 use Rattle.gw_session.specs.declared.exchange.Answer.TheVariants as answer
 use Rattle.gw_session.specs.declared.lease.Leased.TheVariants as leased
 use Rattle.gw_session.specs.Attempt.{Attempts, attempt_waits}
-use Rattle.gw_session.specs.Exchange.{Exchanged, Exchanges}
+use Rattle.gw_session.specs.Exchange.{Exchanged}
 use Rattle.gw_session.specs.Leased.{IsVacant, Grows, LeasedStep, DialsTo, made_want, made_failed, made_dialed, made_drop}
 use Rattle.gw_session.specs.Waits.{GoesOn}
 use Rattle.gw_session.proofs.PoolLemmas.{was_dropped, grows_then}

@@ -1,5 +1,5 @@
 -- Steps of hearing a link, over plain variables.
-use Rattle.std.proofs.Common.{◌≡◌, ◌≤◌, ◌<◌, ◌+◌, inl, inr, ℕ, zero, suc, List, [], ◌∷◌, ◌++◌, length, take, drop, Option, None, Some, ◌==◌, Bool, true, false, not, refl, ap, sym, ◌∙◌, subst, arith, append-nil, append_assoc, length-append, ne_eqb}
+use Rattle.std.proofs.Common.{◌≡◌, ◌<◌, ◌+◌, inl, inr, ℕ, List, [], ◌∷◌, ◌++◌, length, take, drop, Option, Some, ◌==◌, Bool, not, refl, ap, sym, ◌∙◌, subst, arith, append_assoc, length-append, ne_eqb}
 use Rattle.std.proofs.lemmas.List.{take-append-drop}
 use Rattle.std.proofs.lemmas.Option.{none-some}
 use Rattle.gw_wire.specs.declared.values.Act.{Act}
@@ -16,7 +16,6 @@ use Rattle.gw_head.specs.Mark.{end_in_limit}
 use Rattle.gw_head.specs.Stage.{Stage, IsUndecided, bytes_of, Gives, Refuses, GoesOn as Undecided}
 use Rattle.gw_session.specs.declared.request.Request.TheVariants as request
 use Rattle.gw_session.specs.declared.waits.Heard.{Heard}
-use Rattle.gw_session.specs.declared.waits.Heard.TheVariants as heard
 use Rattle.gw_session.specs.declared.waits.Loss.{Loss}
 use Rattle.gw_session.specs.Hearing.{HearsWhile, HearsHead, Began, HearsRequest, Hearing, IsRefusedRequest}
 use Rattle.gw_session.specs.Waits.{HeardStep, GoesOn, loss_acts}

@@ -1,5 +1,5 @@
 -- What is planned for a request, over plain variables.
-use Rattle.std.proofs.Common.{◌≡◌, ℕ, ◌<◌, List, length, Option, Some, None, Result, Ok, Err, sym, ◌∙◌, subst}
+use Rattle.std.proofs.Common.{◌≡◌, ℕ, List, Option, Result, Ok, Err, subst}
 use Rattle.std.specs.Prelude.{IfOk}
 use Rattle.gw_head.specs.declared.request.RequestHead.{RequestHead}
 use Rattle.gw_head.specs.Host.{host_without_port}

@@ -1,5 +1,5 @@
 -- Replies to the client, over plain variables.
-use Rattle.std.proofs.Common.{◌≡◌, ◌≤◌, ℕ, Bool, false, List, [], ◌∷◌, ◌++◌, Option, refl, arith}
+use Rattle.std.proofs.Common.{◌≡◌, ◌≤◌, ℕ, false, List, [], ◌∷◌, ◌++◌, Option, refl, arith}
 use Rattle.gw_wire.specs.Link.{LinkView}
 use Rattle.gw_wire.specs.Wire.{WireView, NowStep}
 use Rattle.gw_wire.proofs.StretchLemmas.{Logs-none, Told-acts, Told-after_quiet}

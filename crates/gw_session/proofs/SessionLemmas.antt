@@ -1,10 +1,9 @@
 -- A session, turn after turn, over plain variables.
-use Rattle.std.proofs.Common.{◌≡◌, ◌+◌, ◌-◌, ◌^◌, min, ℕ, Bool, true, false, List, [], ◌∷◌, ◌++◌, Option, Some, ◌||◌, ◌≤◌, if◌then◌else◌, None, refl, ap, sym, ◌∙◌, subst, arith, append_assoc, append-nil}
+use Rattle.std.proofs.Common.{◌≡◌, ◌+◌, ℕ, Bool, true, false, List, [], ◌∷◌, ◌++◌, Option, Some, ◌||◌, if◌then◌else◌, None, refl, ap, sym, ◌∙◌, subst, arith, append_assoc, append-nil}
 use Rattle.std.specs.List.{sum_by}
 use Rattle.std.proofs.lemmas.Grind.{flat_map-append}
 use Rattle.std.proofs.lemmas.List.Sums.{sum_by-append, sum_by-cons}
 use Rattle.gw_wire.specs.declared.values.Act.{Act}
-use Rattle.gw_wire.specs.declared.values.Act.TheVariants.{Closed}
 use Rattle.gw_wire.specs.declared.values.Addr.{Addr}
 use Rattle.gw_wire.specs.Link.{LinkView}
 use Rattle.gw_wire.specs.Stretch.{Told, Then, Acts}
@@ -30,8 +29,8 @@ use Rattle.gw_session.specs.declared.waits.Sent.TheVariants as sent
 use Rattle.gw_session.specs.Ending.{has_body, why_after}
 use Rattle.gw_session.specs.Leased.{IsVacant}
 use Rattle.gw_session.specs.Replies.{Said, Unsaid, SaidAt, next_behind}
-use Rattle.gw_session.specs.Session.{Behind, Follow, GoingOn, ServedStep, Serves, ServesOn, Serving, SessionStep, began_by, failed_by, is_last, made_by, moments_by, waits_by}
-use Rattle.gw_session.specs.Turn.{Deed, Undecided, Owned, Stopped, Faulty, Passed, Turn, Unheard, Refused, Heard, FitsAt, Turned, TurnStep, began_in, counted, deed_next, failed_in, made_in, moments_in, stop_next, turn_next, unheard_next, waits_in}
+use Rattle.gw_session.specs.Session.{Behind, Follow, GoingOn, ServedStep, Serves, ServesOn, Serving, SessionStep, is_last, made_by, moments_by}
+use Rattle.gw_session.specs.Turn.{Deed, Undecided, Owned, Stopped, Faulty, Passed, Turn, Unheard, Refused, Heard, FitsAt, Turned, TurnStep, began_in, deed_next, failed_in, made_in, moments_in, stop_next, turn_next, unheard_next, waits_in}
 use Rattle.gw_session.specs.Waits.{GoesOn}
 use Rattle.gw_session.proofs.ExchangeLemmas.{grown_none, then_closed}
 use Rattle.gw_session.proofs.PoolLemmas.{grows_then}
@@ -100,7 +99,7 @@ serves_more k peer groups table number ahead next turns turn l e n p = λ result
     let B : Next → Type 0 = λ x. Behind x later result more behind in
     let again : turn_next (is_last number) turn ≡ Again = subst A (sym e) n in
     let inner : Serves k peer groups table number ahead result (turn ∷ more) (p.1 ++ behind) =
-        (next, (p.1, behind, refl, subst T (sym e) p.4, subst B (sym again) s)) in
+    (next, (p.1, behind, refl, subst T (sym e) p.4, subst B (sym again) s)) in
     rw (append_assoc turns (turn ∷ []) more, p.2, append_assoc p.0 p.1 behind) (p.3 result (turn ∷ more) (p.1 ++ behind) inner)
 
 serves_last : (k : ℕ) (peer : List ℕ) (groups : Addr → List Addr) (table : Table) (number : ℕ) (ahead next : List ℕ) (turns : List Turn) (turn : Turn) (result : Ended) (last : Bool) (l : List Act)
@@ -114,7 +113,7 @@ serves_last k peer groups table number ahead next turns turn result last l e n p
     let B : Next → Type 0 = λ x. Behind x later result [] [] in
     let ends : turn_next (is_last number) turn ≡ End result = subst A (sym e) n in
     let inner : Serves k peer groups table number ahead result (turn ∷ []) (p.1 ++ []) =
-        (next, (p.1, [], refl, subst T (sym e) p.4, subst B (sym ends) (refl, refl, refl))) in
+    (next, (p.1, [], refl, subst T (sym e) p.4, subst B (sym ends) (refl, refl, refl))) in
     let whole = p.3 result (turn ∷ []) (p.1 ++ []) inner in
     let S : List Act → Type 0 = λ x. Serves k peer groups table 1 [] result (turns ++ turn ∷ []) x in
     subst S (ap (λ x. p.0 ++ x) (append-nil p.1) ∙ sym p.2) whole

@@ -1,11 +1,10 @@
 -- A turn, call after call, over plain variables.
-use Rattle.std.proofs.Common.{◌≡◌, ◌+◌, ℕ, Bool, true, false, inl, inr, List, [], ◌∷◌, ◌++◌, Option, Some, codes, refl, ap, sym, ◌∙◌, subst, arith}
-use Rattle.std.specs.Prelude.{is_some}
+use Rattle.std.proofs.Common.{◌≡◌, ◌+◌, ℕ, Bool, true, false, inl, inr, List, [], Option, Some, codes, refl, sym, subst, arith}
 use Rattle.gw_wire.specs.declared.values.Act.{Act}
 use Rattle.gw_wire.specs.declared.values.Addr.{Addr}
 use Rattle.gw_wire.specs.Causes.{RoseBy}
 use Rattle.gw_wire.specs.Link.{LinkView}
-use Rattle.gw_wire.specs.Stretch.{Told, Then, Acts}
+use Rattle.gw_wire.specs.Stretch.{Told, Then}
 use Rattle.gw_wire.specs.Wire.{WireView}
 use Rattle.gw_wire.proofs.StretchLemmas.{Logs-none, Told-map, Told-acts, Told-then}
 use Rattle.gw_chunk.specs.declared.error.ChunkError.{ChunkError}
@@ -14,7 +13,6 @@ use Rattle.gw_head.specs.declared.request.RequestHead.{RequestHead}
 use Rattle.gw_pool.specs.Lent.{Lent}
 use Rattle.gw_proxy.specs.declared.own.Own.{Own}
 use Rattle.gw_proxy.specs.declared.own.Own.TheVariants.{Plain}
-use Rattle.gw_proxy.specs.OutReply.{OwnReply}
 use Rattle.gw_routes.specs.declared.table.Table.{Table}
 use Rattle.gw_session.specs.declared.end.Ended.TheVariants as ended
 use Rattle.gw_session.specs.declared.end.Next.{Next}
@@ -34,10 +32,10 @@ use Rattle.gw_session.specs.Hearing.{HearsRequest, request_waits}
 use Rattle.gw_session.specs.Leased.{IsVacant}
 use Rattle.gw_session.specs.Replies.{SaidActs, SaidAnswer, SaidOwn, refusal_code}
 use Rattle.gw_session.specs.Routing.{IsOwn, IsRouted}
-use Rattle.gw_session.specs.Turn.{Deed, Undecided, Owned, Stopped, Faulty, Passed, Trip, Turn, Unheard, Refused, Heard, Deeds, DeedStep, HearsUpload, Invites, IsBody, IsStop, IsUnheard, Turned, TurnStep, continue_text, counted, request_began, stop_next, unheard_next, wants_continue}
+use Rattle.gw_session.specs.Turn.{Undecided, Owned, Stopped, Faulty, Passed, Trip, Unheard, Refused, Heard, Deeds, DeedStep, HearsUpload, Invites, IsBody, IsStop, IsUnheard, Turned, TurnStep, continue_text, counted, request_began, stop_next, unheard_next, wants_continue}
 use Rattle.gw_session.specs.Waits.{GoesOn, SentStep, Says, Writes}
 use Rattle.gw_session.proofs.ExchangeLemmas.{grown_none}
-use Rattle.gw_session.proofs.SayLemmas.{rises_from, rises_to}
+use Rattle.gw_session.proofs.SayLemmas.{rises_from}
 use Rattle.gw_session.proofs.WaitLemmas.{later_same, later_then, link_same, link_then}
 
 pub goes_then : (a b c : WireView) (f g h : LinkView) → GoesOn a b f g → GoesOn b c g h → GoesOn a c f h

@@ -1,9 +1,8 @@
 -- How a session goes on behind a reply, and why it ends.
-use Rattle.std.specs.Prelude.{ℕ, Bool, true, false, not, ◌||◌, ◌&&◌, nat_lt, ◌==◌, Option, Some, None, if◌then◌else◌}
+use Rattle.std.specs.Prelude.{Bool, true, false, ◌||◌, nat_lt, Option, Some, None, if◌then◌else◌}
 use Rattle.gw_head.specs.declared.framing.Framing.{Framing}
 use Rattle.gw_head.specs.declared.framing.Framing.TheVariants.{None as NoBody, Length, Chunked, ToEnd}
 use Rattle.gw_head.specs.declared.request.RequestHead.{RequestHead}
-use Rattle.gw_session.specs.declared.end.Ended.{Ended}
 use Rattle.gw_session.specs.declared.end.Ended.TheVariants as ended
 use Rattle.gw_session.specs.declared.end.Next.{Next}
 use Rattle.gw_session.specs.declared.end.Next.TheVariants.{Again, End}

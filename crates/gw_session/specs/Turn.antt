@@ -1,5 +1,5 @@
 -- One turn of a session: a request is heard and answered. The parts of a turn follow one another on the worker's log.
-use Rattle.std.specs.Prelude.{ℕ, ◌≡◌, ◌+◌, ◌-◌, ◌^◌, min, ◌⊎◌, Bool, true, false, not, ◌&&◌, cond, List, [], codes, is_some, Some}
+use Rattle.std.specs.Prelude.{ℕ, ◌≡◌, ◌+◌, ◌-◌, ◌^◌, min, ◌⊎◌, Bool, true, false, not, ◌&&◌, List, [], codes, is_some, Some}
 use Rattle.gw_wire.specs.declared.values.Act.{Act}
 use Rattle.gw_wire.specs.declared.values.Addr.{Addr}
 use Rattle.gw_wire.specs.Causes.{RoseBy}

@@ -71,7 +71,15 @@ fn serve_client<W: Wire, L: Leases<W::Conn>>(
         return NOTHING;
     };
     serve_turns(
-        alloc, client, peer, wire, leases, table, &mut reader, &mut inbox, &mut spare,
+        alloc,
+        client,
+        peer,
+        wire,
+        leases,
+        table,
+        &mut reader,
+        &mut inbox,
+        &mut spare,
     )
 }
 

@@ -16,7 +16,7 @@ use Rattle.gw_routes.specs.declared.table.Table.{Table}
 use Rattle.gw_top.specs.declared.command.Query.{Query}
 use Rattle.gw_top.specs.Command.{Question, Asks, question_of}
 use Rattle.gw_top.specs.Load.{SaysTable, NoTable, Loads}
-use Rattle.gw_top.specs.Printed.{PrintsOr7, Inspects, Tells, IsDecidedFor, AnswersQuestion, route_line}
+use Rattle.gw_top.specs.Printed.{PrintsOr7, Inspects, Tells, AnswersQuestion, route_line}
 use Rattle.gw_top.proofs.TopLemmas.{world_then}
 use Rattle.gw_top.proofs.LoadLemmas.{says_behind}
 

@@ -1,5 +1,5 @@
 -- The reading of a route file, over plain variables.
-use Rattle.std.proofs.Common.{◌≡◌, ℕ, inl, inr, List, [], ◌++◌, codes, Option, Ok, Err, sym, ◌∙◌, subst, arith}
+use Rattle.std.proofs.Common.{◌≡◌, ℕ, inl, inr, List, [], ◌++◌, Option, Ok, subst, arith}
 use Rattle.gw_wire.specs.declared.traits.Loaded.TheVariants as loaded
 use Rattle.gw_wire.specs.declared.traits.Printed.{Printed}
 use Rattle.gw_wire.specs.Acts.{Logs}
@@ -10,7 +10,7 @@ use Rattle.gw_routes.specs.declared.fault.RouteError.TheVariants.{Bad, Conflict}
 use Rattle.gw_routes.specs.declared.table.Table.{Table}
 use Rattle.gw_routes.specs.Files.{AreNumbered, Reads, Refuses as RefusesFile}
 use Rattle.gw_top.specs.Lines.{unreadable_line, memory_line, bad_line, conflict_line}
-use Rattle.gw_top.specs.Load.{Prints, Says, SaysOr7, SaysTable, RefusesNamed, NoTable, Loads}
+use Rattle.gw_top.specs.Load.{Says, SaysOr7, NoTable, Loads}
 use Rattle.gw_top.proofs.TopLemmas.{world_then, prints_then, prints_quiet, printed_by}
 
 -- a line behind a call that printed nothing, and behind another

@@ -27,7 +27,7 @@ use Rattle.gw_session.specs.Turn.{Turn}
 use Rattle.gw_session.proofs.PoolLemmas.{grows_then}
 use Rattle.gw_session.proofs.SayLemmas.{rises_then, rises_to}
 use Rattle.gw_session.proofs.WaitLemmas.{later_same, later_then}
-use Rattle.gw_top.specs.Run.{Visit, Visited, Visits, Follow, Serving, Worked, made_by, began_by, moments_by}
+use Rattle.gw_top.specs.Run.{Visit, Visited, Visits, Follow, Serving, Worked, made_by, moments_by}
 
 pub given_first : {W : Type 0} (world : WorldView) (wire : W → WireView) (wires : List W) (first : W) → wires ≡ first ∷ []
     → All (λ w. IsGiven world (wire w)) wires → IsGiven world (wire first)

@@ -1,5 +1,5 @@
 -- The top call: its lines, its refusals, and the run that it reports, over plain variables.
-use Rattle.std.proofs.Common.{◌≡◌, ◌+◌, ℕ, Bool, inl, inr, true, false, List, [], ◌∷◌, ◌++◌, map, Option, Some, None, Result, Ok, Err, refl, ap, sym, ◌∙◌, subst, arith}
+use Rattle.std.proofs.Common.{◌≡◌, ◌+◌, ℕ, Bool, inl, inr, true, false, List, [], ◌∷◌, ◌++◌, map, Option, Some, None, Ok, Err, refl, ap, sym, ◌∙◌, subst, arith}
 use Rattle.std.specs.Prelude.{if◌then◌else◌, String}
 use Rattle.std.specs.declared.alloc.Global.{Global}
 use Rattle.gw_wire.specs.declared.traits.Printed.{Printed}
@@ -100,9 +100,9 @@ deed_along groups others same client peer table last head kept ahead (Stopped nu
 deed_along groups others same client peer table last head kept ahead (Faulty number error said) l t = t
 deed_along groups others same client peer table last head kept ahead (Passed number upload trip said) l t =
     let P : List Addr → Type 0 = λ members.
-        Then (HearsUpload client head kept ahead upload)
-        (Then (Exchanges members trip.target.host trip.target.backend (sent_text head trip.target peer trip.body) head.method trip.link trip.answer)
-        (SaidActs client said)) l in
+    Then (HearsUpload client head kept ahead upload)
+    (Then (Exchanges members trip.target.host trip.target.backend (sent_text head trip.target peer trip.body) head.method trip.link trip.answer)
+    (SaidActs client said)) l in
     (t.0, t.1, t.2, t.3, subst P (same trip.target.backend) t.4)
 
 turn_along : (groups others : Addr → List Addr) → ((address : Addr) → groups address ≡ others address) → (client : ℕ) (peer : List ℕ) (table : Table) (last : Bool) (kept ahead : List ℕ) (turn : Turn) (l : List Act)
@@ -120,15 +120,17 @@ behind_along (End why) P Q result turns l f b = b
 serves_along : (groups others : Addr → List Addr) → ((address : Addr) → groups address ≡ others address) → (client : ℕ) (peer : List ℕ) (table : Table) (number : ℕ) (kept : List ℕ) (result : Ended) (turns : List Turn) (l : List Act)
     → ServesTurns client peer groups table number kept result turns l → ServesTurns client peer others table number kept result turns l
 serves_along groups others same client peer table number kept result [] l s = s
-serves_along groups others same client peer table number kept result (turn ∷ turns) l s =
-    (s.0, (
-      s.1.0,
-      s.1.1,
-      s.1.2,
-      turn_along groups others same client peer table (is_last number) kept s.0 turn s.1.0 s.1.3,
-      behind_along (turn_next (is_last number) turn) (ServesTurns client peer groups table (number + 1) s.0 result turns) (ServesTurns client peer others table (number + 1) s.0 result turns) result turns s.1.1
-          (λ m p. serves_along groups others same client peer table (number + 1) s.0 result turns m p) s.1.4,
-    ))
+serves_along groups others same client peer table number kept result (turn ∷ turns) l s = (
+  s.0,
+  (
+    s.1.0,
+    s.1.1,
+    s.1.2,
+    turn_along groups others same client peer table (is_last number) kept s.0 turn s.1.0 s.1.3,
+    behind_along (turn_next (is_last number) turn) (ServesTurns client peer groups table (number + 1) s.0 result turns) (ServesTurns client peer others table (number + 1) s.0 result turns) result turns s.1.1
+        (λ m p. serves_along groups others same client peer table (number + 1) s.0 result turns m p) s.1.4,
+  ),
+)
 
 visited_along : (groups others : Addr → List Addr) → ((address : Addr) → groups address ≡ others address) → (table : Table) (v : Visit) (l : List Act)
     → Visited groups table v l → Visited others table v l

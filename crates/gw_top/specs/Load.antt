@@ -6,7 +6,7 @@ use Rattle.gw_wire.specs.World.{WorldView, WorldLater, Holds}
 use Rattle.gw_pattern.specs.declared.fault.PCode.{PCode}
 use Rattle.gw_routes.specs.declared.fault.GCode.{GCode}
 use Rattle.gw_routes.specs.declared.fault.RouteError.{RouteError}
-use Rattle.gw_routes.specs.declared.fault.RouteError.TheVariants.{Bad, Conflict, NoMemory}
+use Rattle.gw_routes.specs.declared.fault.RouteError.TheVariants.{Bad, Conflict}
 use Rattle.gw_routes.specs.declared.table.Table.{Table}
 use Rattle.gw_routes.specs.Files.{AreNumbered, Reads, Refuses as RefusesFile}
 use Rattle.gw_top.specs.Lines.{unreadable_line, memory_line, bad_line, conflict_line}

@@ -1,7 +1,6 @@
 -- What a run's status says, and what is printed with it.
-use Rattle.std.specs.Prelude.{ℕ, ◌≡◌, ◌<◌, ◌⊎◌, length, vec_capacity, true, if◌then◌else◌, List, [], ◌∷◌, Some, None, String}
+use Rattle.std.specs.Prelude.{ℕ, ◌≡◌, ◌<◌, ◌⊎◌, vec_capacity, true, if◌then◌else◌, List, [], ◌∷◌, Some, None, String}
 use Rattle.std.specs.declared.alloc.Global.{Global}
-use Rattle.gw_wire.specs.declared.values.Addr.{Addr}
 use Rattle.gw_wire.specs.Causes.{Rose}
 use Rattle.gw_wire.specs.Wire.{WireView}
 use Rattle.gw_wire.specs.World.{WorldView, WorldLater, ListensNow}

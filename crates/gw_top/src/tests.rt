@@ -515,8 +515,13 @@ fn passed_on(rt: HostRuntime) -> Result<(), Fail> {
             "HTTP/1.1 502 Bad Gateway\r\nContent-Length: 16\r\nDate: Sun, 06 Nov 1994 08:49:37 GMT\r\n\r\n502 Bad Gateway\n",
         ),
     ] {
-        let (client, backend) =
-            traded(&rt, alloc, file.as_str(), request.as_bytes(), reply.as_bytes())?;
+        let (client, backend) = traded(
+            &rt,
+            alloc,
+            file.as_str(),
+            request.as_bytes(),
+            reply.as_bytes(),
+        )?;
         assert_eq!(rt; client.as_slice(), to_client.as_bytes(), "{name}");
         assert_eq!(rt; backend.as_slice(), to_backend.as_bytes(), "{name}");
     }
@@ -533,10 +538,7 @@ fn slow_wire(alloc: Global, requests: &[u8]) -> Result<MemWire, AllocError>
     }
     let mut accepts = Vec::new(alloc);
     if let Some(peer) = PeerText::new(b"10.0.0.7") {
-        accepts.push(AcceptEvent::Conn(
-            MemConn::new(1, events, Vec::new(alloc)),
-            peer,
-        ))?;
+        accepts.push(AcceptEvent::Conn(MemConn::new(1, events, Vec::new(alloc)), peer))?;
     }
     let mut dials = Vec::new(alloc);
     dials.push(DialEvent::Conn(sends(alloc, 2, REPLY)?))?;

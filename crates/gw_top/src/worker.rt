@@ -49,8 +49,7 @@ pub fn work<R: Wait, W: Wire, L: Leases<W::Conn>>(
     for _client in rt.forever() {
         match worker.wire.accept() {
             Accept::Conn(client, peer) => {
-                let served =
-                    serve_connection(alloc, client, peer, &mut worker.wire, leases, table);
+                let served = serve_connection(alloc, client, peer, &mut worker.wire, leases, table);
                 worker.entered = worker.entered.saturating_add(served.begun);
             }
             Accept::Tick => {}

@@ -1,7 +1,7 @@
-use Rattle.std.proofs.Common.{ℕ, ◌≡◌, ◌++◌, ◌∷◌, [], true, false, arith, ne_eqb}
+use Rattle.std.proofs.Common.{◌≡◌, ◌++◌, ◌∷◌, [], true, false, arith, ne_eqb}
 use Rattle.std.proofs.lemmas.Bool.{eq-eqb}
 use Rattle.gw_session.specs.Session.{is_last}
-use Rattle.gw_session.proofs.SessionLemmas.{going_begins, going_more, going_ends, never_again}
+use Rattle.gw_session.proofs.SessionLemmas.{going_begins, going_more, going_ends}
 use Rattle.gw_session.proofs.session.serve_turns.Goals as goal
 
 pub loop-number-init : goal.loop-number-init

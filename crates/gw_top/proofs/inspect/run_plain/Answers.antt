@@ -1,5 +1,5 @@
 use Rattle.std.proofs.Common.{inl, inr, refl, subst}
-use Rattle.gw_top.specs.Command.{IsCheck, Question, question_of}
+use Rattle.gw_top.specs.Command.{Question, question_of}
 use Rattle.gw_top.specs.Printed.{IsOk, IsAnswerTo, PrintsOr7}
 use Rattle.gw_top.proofs.InspectLemmas.{inspects_table, inspects_none, question_is}
 use Rattle.gw_top.proofs.inspect.run_plain.Goals as goal

@@ -1,4 +1,4 @@
-use Rattle.std.proofs.Common.{inl, inr, sym, ap, ◌∙◌}
+use Rattle.std.proofs.Common.{inl, inr, ap, ◌∙◌}
 use Rattle.gw_top.proofs.RunLemmas.{given_first}
 use Rattle.gw_top.proofs.TopLemmas.{served, unheard_ends, refuses_behind, closes_of}
 use Rattle.gw_top.specs.Lines.{memory_line}

@@ -1,4 +1,4 @@
-use Rattle.std.proofs.Common.{◌≡◌, arith, ◌∙◌}
+use Rattle.std.proofs.Common.{◌≡◌, arith}
 use Rattle.gw_session.proofs.PoolLemmas.{vacant_opened}
 use Rattle.gw_top.proofs.run.prepare.Goals as goal
 

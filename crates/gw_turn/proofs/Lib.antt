@@ -1,0 +1,15 @@
+pub mod RowSteps
+pub mod Owners
+pub mod Moving
+pub mod Callers
+pub mod Staying
+pub mod CoreCalls
+pub mod RowCalls
+pub mod Sums
+pub mod Views
+pub mod Keeping
+pub mod Handing
+pub mod Ending
+pub mod Opening
+pub mod Leaving
+pub mod Beginning

@@ -1,0 +1,28 @@
+use Rattle.std.proofs.Common.{◌≡◌, ◌∙◌, List, sym, ap, subst}
+use Rattle.std.specs.List.{All}
+use Rattle.gw_pool.specs.declared.entry.Entry.{Entry}
+use Rattle.gw_turn.specs.declared.view.Member.{Member}
+use Rattle.gw_turn.specs.declared.view.PassView.{PassView}
+use Rattle.gw_turn.specs.Pass.{PassState, state_of}
+use Rattle.gw_turn.specs.Steps.{IsIn}
+use Rattle.gw_turn.proofs.Leaving.{leave_same, slot_same, view_same}
+use Rattle.gw_turn.proofs.pool.Pool.close.Goals as goal
+
+pub leave-requires-clause-leave : goal.leave-requires-clause-leave
+leave-requires-clause-leave g c =
+    let ends = c.end_turns.ensures.view in
+    let v = c.into_seat-place.result.me.0 in
+    let is_v : v ≡ c.last.invariant.view = view_same v c.last.invariant.view c.last.inside.badge.views (ap (λ b. b.views) (sym c.replace.ensures.value) ∙ c.into_seat-place.ensures.2) c.last.invariant.is_view in
+    leave_same v c.state_out-core.new.place.me.0 ends.met.core c.in-Err.core c.last.inside.out.out (ap (λ m. m.0) c.state_out-core.ensures.slot.1 ∙ ends.met.view) ends.met.meeting
+    (c.in-Err.ensures.back ∙ slot_same c.state_out-core.result ends.met.core c.into_seat-place.result.me.1 c.end_turns.new.place.me.1 c.state_out-core.ensures.slot.0 ends.met.slots)
+    (sym (ap (λ (x : PassView). x.own.out) is_v ∙ c.last.invariant.same_out))
+
+pub returns-in-Ok-clause-joined : goal.returns-in-Ok-clause-joined
+returns-in-Ok-clause-joined g c =
+    let ends = c.end_turns.ensures.view in
+    let v = c.into_seat-place.result.me.0 in
+    let is_v : v ≡ c.last.invariant.view = view_same v c.last.invariant.view c.last.inside.badge.views (ap (λ b. b.views) (sym c.replace.ensures.value) ∙ c.into_seat-place.ensures.2) c.last.invariant.is_view in
+    let core = slot_same c.state_out-core.result ends.met.core c.into_seat-place.result.me.1 c.end_turns.new.place.me.1 c.state_out-core.ensures.slot.0 ends.met.slots in
+    let journal : c.in-Ok.journal.items ≡ ends.met.core.journal = c.in-Ok.ensures.journal ∙ ap (λ k. k.journal) core in
+    let joined : c.args.last.joined ≡ v.joined = sym (ap (λ (p : PassState). p.joined) c.last.view_is) ∙ ap (λ vs. (state_of c.last.inside.badge.table_id vs).joined) c.last.invariant.is_view ∙ ap (λ (x : PassView). x.joined) (sym is_v) in
+    rw (journal, joined) ends.fellows

@@ -1,0 +1,31 @@
+-- A dial of one pass failed.
+use Rattle.std.proofs.Common.{◌≡◌, ◌∙◌, ◌++◌, ◌∷◌, ◌<◌, ◌≤◌, [], ap, sym, subst, refl, length, arith}
+use Rattle.gw_pool.specs.Core as core
+use Rattle.gw_pool.specs.Lent as lent
+use Rattle.gw_pool.specs.Tokens.{ticket_of, change, with_dial, without_dial, without_ticket, leased, without_lease}
+use Rattle.gw_pool.specs.declared.entry.Call.TheVariants as call
+use Rattle.gw_turn.specs.Meeting.{Entering, Leaving}
+use Rattle.gw_turn.proofs.Beginning.{begun, enters, leaves, becomes, few}
+use Rattle.gw_pool.specs.Core.{state_at}
+use Rattle.gw_turn.specs.Owner.{owner}
+use Rattle.gw_turn.proofs.Callers.{has_dial_row}
+use Rattle.gw_turn.proofs.RowCalls.{enter_failed, dial_failed}
+use Rattle.gw_turn.proofs.pool.Pool.dial_failed.Goals as goal
+
+pub dial_failed-requires : goal.dial_failed-requires
+dial_failed-requires g c =
+    let b = begun c.pass.inside.badge.table_id c.pass.inside.badge.views c.args.pass.now c.begin-turn.result.place.me c.begin-turn.result.core c.pass.inside.out c.pass.inside.waits c.pass.inside.number c.pass.view_is c.pass.invariant c.begin-turn.ensures.view in
+    has_dial_row (owner c.begin-turn.result.core.journal) c.args.pass.now.lent.number (state_at c.begin-turn.result.core) c.args.pass.now.lent.out c.begin-turn.result.core.taken c.args.d.want b.meeting.ties c.requires.token
+
+pub enter-requires-clause-entry : goal.enter-requires-clause-entry
+enter-requires-clause-entry g c =
+    let b = begun c.pass.inside.badge.table_id c.pass.inside.badge.views c.args.pass.now c.begin-turn.result.place.me c.begin-turn.result.core c.pass.inside.out c.pass.inside.waits c.pass.inside.number c.pass.view_is c.pass.invariant c.begin-turn.ensures.view in
+    enters c.args.pass.now c.begin-turn.result.place.me.0 c.begin-turn.result.core c.dial_failed.new.self c.pass.inside.out.out c.spend_dial.new.self.out c.pass.inside.waits c.pass.inside.number b
+    (subst (λ o. Entering c.args.pass.now.lent.number c.begin-turn.result.core c.dial_failed.new.self c.args.pass.now.lent.out o) (sym (c.spend_dial.ensures.out ∙ ap (λ o. change c.args.d.want without_dial o) b.same_out))
+    (enter_failed c.args.pass.now.lent c.begin-turn.result.core c.dial_failed.new.self c.args.d.want b.meeting c.requires.token c.dial_failed.ensures))
+
+pub returns-clause-step : goal.returns-clause-step
+returns-clause-step g c =
+    let b = begun c.pass.inside.badge.table_id c.pass.inside.badge.views c.args.pass.now c.begin-turn.result.place.me c.begin-turn.result.core c.pass.inside.out c.pass.inside.waits c.pass.inside.number c.pass.view_is c.pass.invariant c.begin-turn.ensures.view in
+    subst (λ x. lent.DialFailedStep c.args.pass.now.lent x c.args.d) (becomes c.args.pass.now c.begin-turn.result.place.me.0 c.begin-turn.result.core c.dial_failed.new.self c.pass.inside.out.out c.spend_dial.new.self.out (change c.args.d.want without_dial c.args.pass.now.lent.out) c.pass.inside.waits c.pass.inside.waits (c.args.pass.now.lent.waits) c.pass.inside.number c.enter.result.table_id c.enter.result.views b c.enter.ensures.view (c.spend_dial.ensures.out ∙ ap (λ o. change c.args.d.want without_dial o) b.same_out) (b.same_waits))
+    (dial_failed c.args.pass.now.lent c.begin-turn.result.core c.dial_failed.new.self c.args.d b.meeting c.requires.token c.dial_failed.ensures)

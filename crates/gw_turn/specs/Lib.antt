@@ -1,0 +1,7 @@
+pub mod Owner
+pub mod Tie
+pub mod Meeting
+pub mod Laws
+pub mod Turn
+pub mod Steps
+pub mod Pass
