@@ -1,5 +1,5 @@
 -- A call of a pass, from the turn that it began to what it knows after.
-use Rattle.std.proofs.Common.{◌≡◌, ◌∙◌, ℕ, ◌<◌, ◌≤◌, refl, sym, ap, subst, arith, List, [], ◌∷◌, Some, None, length}
+use Rattle.std.proofs.Common.{◌≡◌, ◌∙◌, ℕ, ◌<◌, sym, ap, subst, arith, List, [], ◌∷◌, None, length}
 use Rattle.atomic_table.specs.Seated.{TableId}
 use Rattle.gw_pool.specs.declared.holding.Holding.{Holding}
 use Rattle.gw_pool.specs.Core.{CoreView, state_at}

@@ -1,5 +1,5 @@
 -- What the tie says of one caller's rows among those of several.
-use Rattle.std.proofs.Common.{◌≡◌, ℕ, ◌+◌, ◌≤◌, ◌==◌, ◌||◌, ◌⊎◌, inl, inr, Bool, true, false, List, [], ◌∷◌, ◌++◌, length, map, filter, Option, Some, None, refl, ap, sym, ◌∙◌, arith, cond, eqb-true, eq-eqb, subst}
+use Rattle.std.proofs.Common.{◌≡◌, ℕ, ◌+◌, ◌≤◌, ◌==◌, ◌||◌, inl, inr, Bool, true, false, List, [], ◌∷◌, ◌++◌, length, map, filter, Some, None, refl, ap, sym, ◌∙◌, arith, cond, eqb-true, eq-eqb}
 use Rattle.std.specs.List.{find, list_any, filter_map, cons_option}
 use Rattle.std.specs.Option.{IsSome}
 use Rattle.gw_pool.specs.declared.holding.Holding.{Holding}
@@ -11,7 +11,7 @@ use Rattle.gw_pool.specs.declared.rows.DialRow.{DialRow}
 use Rattle.gw_pool.specs.State.{State, wants_it, dials_for, has_number, is_with}
 use Rattle.gw_pool.specs.Machine.{units, distinct, out_want, Served, standing}
 use Rattle.gw_pool.specs.Tokens.{names, has_ticket, has_dial}
-use Rattle.gw_pool.specs.Ties.{Among, bit, one, occ_of, con_of, dials_of}
+use Rattle.gw_pool.specs.Ties.{Among, bit, occ_of, dials_of}
 use Rattle.gw_pool.proofs.Edits.{found_passes}
 use Rattle.gw_pool.proofs.Owns.{found_among}
 use Rattle.gw_pool.proofs.Shelves.{out_at}

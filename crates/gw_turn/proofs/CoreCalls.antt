@@ -1,44 +1,31 @@
 -- The calls of a pass that has the turn, by those of the pool below.
-use Rattle.std.proofs.Common.{◌≡◌, ℕ, ◌+◌, ◌<◌, ◌≤◌, ◌==◌, ◌⊎◌, inl, inr, Bool, true, false, List, [], ◌∷◌, ◌++◌, Option, Some, None, refl, ap, sym, ◌∙◌, arith, cond, subst, eq-eqb, length}
-use Rattle.std.specs.List.{find}
-use Rattle.std.specs.Option.{IsSome}
+use Rattle.std.proofs.Common.{◌≡◌, ℕ, ◌<◌, ◌==◌, inl, inr, Bool, true, false, List, [], ◌∷◌, ◌++◌, Some, None, refl, ap, sym, ◌∙◌, arith, cond, subst, eq-eqb}
 use Rattle.std.proofs.lemmas.List.Elements.{All-push}
 use Rattle.gw_wire.specs.Link.{LinkView}
-use Rattle.gw_pool.specs.declared.limits.Limits.{Limits}
 use Rattle.gw_pool.specs.declared.entry.Entry.{Entry}
 use Rattle.gw_pool.specs.declared.entry.Call.{Call}
 use Rattle.gw_pool.specs.declared.entry.Call.TheVariants as call
 use Rattle.gw_pool.specs.declared.holding.Holding.{Holding}
-use Rattle.gw_pool.specs.declared.rows.Place.TheVariants.{Out}
 use Rattle.gw_pool.specs.declared.rows.ConnRow.{ConnRow}
 use Rattle.gw_pool.specs.declared.leases.Ticket.{Ticket}
-use Rattle.gw_pool.specs.declared.leases.Lease.{Lease}
-use Rattle.gw_pool.specs.declared.leases.Put.{Put}
-use Rattle.gw_pool.specs.Closes.{IsOf}
-use Rattle.gw_pool.specs.State.{State, wants_it, dials_for, has_number, is_with}
-use Rattle.gw_pool.specs.Machine.{Outcome, step, want_step, Standing, Served, MayDial, NotServed, NotComing, standing}
-use Rattle.gw_pool.specs.History.{IsLegal, AreBelow, after, mine, is_full}
-use Rattle.gw_pool.specs.Shelf.{LeavesTaken}
-use Rattle.gw_pool.specs.Tokens.{change, ticket_of, has_ticket, has_dial, has_lease, with_dial, without_dial, without_ticket, leased, without_lease}
+use Rattle.gw_pool.specs.State.{State}
+use Rattle.gw_pool.specs.Machine.{Outcome, want_step}
+use Rattle.gw_pool.specs.History.{AreBelow, mine, is_full}
+use Rattle.gw_pool.specs.Tokens.{ticket_of}
 use Rattle.gw_pool.specs.Core.{CoreView, Enters, Started, Done, DonePut, CancelDone, IsBack, IsOut, IdleTaken as CoreIdle, IdleNot as CoreNot, IdleDone, state_at, WantMade as CoreMade, WantExpired as CoreExpired, AskTaken as CoreTaken, NotStarted}
 use Rattle.gw_pool.specs.Lent as lent
 use Rattle.gw_pool.specs.Lent.{Lent, Meets, Calls, Looks, Leaves, LeaseOf, row_of, entry_of}
-use Rattle.gw_pool.proofs.Edits.{found_passes}
-use Rattle.gw_pool.proofs.Shelves.{out_at}
 use Rattle.gw_pool.proofs.Histories.{entered_state}
 use Rattle.gw_pool.proofs.Numbers.{Numbers, legal_numbers}
-use Rattle.gw_pool.proofs.Inverts.{want_was, start_was, dialed_was, failed_was, cancel_was, back_was, drop_was, IdleWas, CancelRowWas, CancelConnWas}
-use Rattle.gw_pool.proofs.SoloCalls.{gone_some, not_coming_rows, served_row}
-use Rattle.gw_pool.proofs.TieCalls.{leased_has}
+use Rattle.gw_pool.proofs.Inverts.{want_was}
+use Rattle.gw_pool.proofs.SoloCalls.{gone_some}
 use Rattle.gw_pool.proofs.TieWant.{made_want}
 use Rattle.gw_turn.specs.Owner.{made_by, made_by_reply, owner, owners_after, IsOwned}
-use Rattle.gw_turn.specs.Tie.{Ties, Fresh, Moves}
-use Rattle.gw_turn.specs.Meeting.{Meeting, Leads, Entering, Leaving, known}
+use Rattle.gw_turn.specs.Tie.{Moves}
+use Rattle.gw_turn.specs.Meeting.{Meeting, Entering, Leaving, known}
 use Rattle.gw_turn.proofs.RowSteps.{MakesOr, makes_or}
 use Rattle.gw_turn.proofs.Owners.{owner_push, owners_none, owners_new, owners_old, legal_owned}
-use Rattle.gw_turn.proofs.Moving.{move_drop, move_back, move_cancel, move_cancel_conn, move_none, move_lease, move_same, move_start, move_failed, move_dialed, move_idle, move_expired, move_made}
-use Rattle.gw_turn.proofs.Callers.{want_caller, dial_caller, conn_caller, served_place, served_number, ticket_own, dial_own}
-use Rattle.gw_turn.proofs.Staying.{stays}
+use Rattle.gw_turn.proofs.Moving.{move_same, move_expired, move_made}
 
 -- the entries of a caller, with one more
 mine_step : (e : Entry) (c : ℕ) (xs : List Entry) (b : Bool) → (e.caller == c) ≡ b → (b ≡ true → ⊥) → cond b (e ∷ xs) xs ≡ xs

@@ -1,6 +1,6 @@
 -- The end: one pass is left.
-use Rattle.std.proofs.Common.{◌≡◌, ◌≢◌, ℕ, zero, suc, ◌+◌, ◌<◌, ◌≤◌, ◌==◌, ◌⊎◌, inl, inr, Bool, true, false, List, [], ◌∷◌, ◌++◌, length, set, slice_index, refl, sym, ap, ◌∙◌, subst, ⊎_elim, arith, cond, nat_lt, append-nil, Some, None, Option, lt-ltb}
-use Rattle.std.specs.List.{sum_by, find, All}
+use Rattle.std.proofs.Common.{◌≡◌, ◌≢◌, ℕ, ◌+◌, ◌<◌, ◌≤◌, ◌==◌, inl, inr, Bool, true, false, List, [], ◌∷◌, length, slice_index, refl, sym, ap, ◌∙◌, subst, ⊎_elim, arith, cond, nat_lt, Some, lt-ltb}
+use Rattle.std.specs.List.{sum_by, All}
 use Rattle.std.proofs.lemmas.List.Sums.{sum_by-cons}
 use Rattle.std.proofs.lemmas.List.Elements.{All-nil, All-cons, All-head, All-tail}
 use mathlib.Core.Option.{some, some-injective}
@@ -10,21 +10,17 @@ use Rattle.atomic_table.specs.Table.{takes, Allows}
 use Rattle.atomic_table.proofs.Lists.{exchanged}
 use Rattle.gw_pool.specs.declared.limits.Limits.{Limits}
 use Rattle.gw_pool.specs.declared.entry.Entry.{Entry}
-use Rattle.gw_pool.specs.declared.holding.Holding.{Holding}
-use Rattle.gw_pool.specs.declared.entry.Call.{Call}
-use Rattle.gw_pool.specs.declared.entry.Reply.{Reply}
-use Rattle.gw_pool.specs.History.{AreBelow, after, mine}
-use Rattle.gw_pool.specs.Core.{CoreView, IsQuiet, state_at}
+use Rattle.gw_pool.specs.History.{AreBelow, after}
+use Rattle.gw_pool.specs.Core.{IsQuiet}
 use Rattle.gw_pool.specs.Laws.{is_number}
-use Rattle.gw_pool.specs.Ties.{Among, one, bit, occ_of, dials_of}
-use Rattle.gw_pool.proofs.Ties.{decide, one_same, one_other}
-use Rattle.gw_pool.proofs.Weights.{weight}
+use Rattle.gw_pool.specs.Ties.{Among, one, bit}
+use Rattle.gw_pool.proofs.Ties.{decide, one_other}
 use Rattle.gw_pool.proofs.TieWant.{quiet_of}
 use Rattle.gw_turn.specs.declared.view.Member.{Member}
 use Rattle.gw_turn.specs.declared.view.PassView.{PassView}
 use Rattle.gw_turn.specs.Owner.{made_by, owners_after, owners_from, owner}
 use Rattle.gw_turn.specs.Tie.{Ties}
-use Rattle.gw_turn.specs.Turn.{TurnState, members_of, spent, total, turns, size, counts, core_at, IsKnown, Fits, IsKept}
+use Rattle.gw_turn.specs.Turn.{TurnState, members_of, spent, total, turns, size, counts, core_at, IsKept}
 use Rattle.gw_turn.specs.Steps.{PassMe, took, Ends, IsIn}
 use Rattle.gw_turn.proofs.Sums.{total_two, total_alone}
 use Rattle.gw_turn.proofs.Views.{live_members}

@@ -1,22 +1,21 @@
 -- A split, a join and the end keep to the rule of the turn.
-use Rattle.std.proofs.Common.{◌≡◌, ◌≢◌, ℕ, zero, suc, ◌+◌, ◌<◌, ◌≤◌, ◌==◌, ◌⊎◌, inl, inr, Bool, true, false, List, [], ◌∷◌, ◌++◌, length, set, refl, sym, ap, ◌∙◌, subst, ⊎_elim, arith, cond, nat_lt, append-nil, length-append, Some, None, length-set, lt-ltb, ltb-true, ltb-false}
-use Rattle.std.specs.List.{sum_by, find, list_all}
+use Rattle.std.proofs.Common.{◌≡◌, ◌≢◌, ℕ, ◌+◌, ◌<◌, ◌≤◌, ◌⊎◌, inl, inr, Bool, true, false, List, [], ◌∷◌, ◌++◌, length, set, refl, sym, ap, ◌∙◌, subst, ⊎_elim, arith, cond, nat_lt, append-nil, length-append, ltb-true, ltb-false}
+use Rattle.std.specs.List.{sum_by}
 use Rattle.std.proofs.lemmas.List.Sums.{sum_by-cons, sum_by-append}
 use mathlib.Core.Option.{some, some-injective}
 use lib.ListN.{get_elem?}
 use Rattle.atomic_table.specs.Table.{Splits, Joins}
-use Rattle.atomic_table.proofs.Lists.{at_set, at_snoc, set_here, set_else, at_longer, at_last}
+use Rattle.atomic_table.proofs.Lists.{at_set, at_snoc, set_here, set_else, at_longer}
 use Rattle.gw_pool.specs.declared.limits.Limits.{Limits}
 use Rattle.gw_pool.specs.declared.entry.Entry.{Entry}
-use Rattle.gw_pool.specs.declared.holding.Holding.{Holding}
 use Rattle.gw_pool.specs.History.{mine}
 use Rattle.gw_pool.specs.Ties.{Among, one, bit}
-use Rattle.gw_pool.proofs.Ties.{decide, one_same}
+use Rattle.gw_pool.proofs.Ties.{decide}
 use Rattle.gw_turn.specs.declared.view.Member.{Member}
 use Rattle.gw_turn.specs.declared.view.PassView.{PassView}
-use Rattle.gw_turn.specs.Turn.{TurnState, members_of, spent, begun, total, turns, size, counts, IsKnown, Fits, IsKept}
+use Rattle.gw_turn.specs.Turn.{members_of, spent, begun, total, turns, size, counts, IsKnown, Fits, IsKept}
 use Rattle.gw_turn.specs.Steps.{Others, split_left, split_right, right_of, longer, joined}
-use Rattle.gw_turn.proofs.Sums.{total_set, total_snoc, total_two, total_at, total_alone, there_below}
+use Rattle.gw_turn.proofs.Sums.{total_set, total_snoc, there_below}
 use Rattle.gw_turn.proofs.Views.{live_members, knows_more}
 
 off : {X : Type 0} (b : Bool) → b ≡ true → b ≡ false → X

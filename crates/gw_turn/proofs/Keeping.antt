@@ -10,17 +10,17 @@ use Rattle.gw_pool.specs.declared.limits.Limits.{Limits}
 use Rattle.gw_pool.specs.declared.entry.Entry.{Entry}
 use Rattle.gw_pool.specs.declared.holding.Holding.{Holding}
 use Rattle.gw_pool.specs.History.{IsLegal, AreBelow, after, mine}
-use Rattle.gw_pool.specs.Core.{CoreView, state_at}
+use Rattle.gw_pool.specs.Core.{CoreView}
 use Rattle.gw_pool.specs.Ties.{Among, one, bit}
 use Rattle.gw_turn.specs.declared.view.Member.{Member}
 use Rattle.gw_turn.specs.declared.view.PassView.{PassView}
 use Rattle.gw_turn.specs.Owner.{owner}
-use Rattle.gw_turn.specs.Tie.{Ties, Spares, Fresh, Moves}
+use Rattle.gw_turn.specs.Tie.{Fresh}
 use Rattle.gw_turn.specs.Meeting.{Meeting, Entering, Leaving}
-use Rattle.gw_turn.specs.Turn.{TurnState, members_of, spent, total, turns, size, counts, core_at, IsKnown, Fits, IsKept}
-use Rattle.gw_turn.specs.Steps.{lent_of, core_of, took, own_after, counted, released, PassMe, Met, Tries}
+use Rattle.gw_turn.specs.Turn.{TurnState, members_of, total, turns, size, counts, core_at, IsKnown, Fits, IsKept}
+use Rattle.gw_turn.specs.Steps.{lent_of, core_of, took, counted, released, PassMe, Tries}
 use Rattle.gw_turn.proofs.Sums.{total_set, total_at, total_two, there_below, words_turn, words_count, count_turn, count_count}
-use Rattle.gw_turn.proofs.Views.{live_members, joined_other, other_view, none_since, mine_append}
+use Rattle.gw_turn.proofs.Views.{live_members, joined_other, other_view, none_since}
 use Rattle.gw_turn.proofs.Moving.{spared}
 use Rattle.gw_turn.proofs.CoreCalls.{mine_push}
 

@@ -1,24 +1,24 @@
 -- A call of one caller among several keeps its tokens tied to the rows, and leaves those of the others as they are.
-use Rattle.std.proofs.Common.{◌≡◌, ℕ, ◌+◌, ◌<◌, ◌≤◌, ◌==◌, ◌⊎◌, inl, inr, Bool, true, false, List, [], ◌∷◌, ◌++◌, length, Option, Some, None, refl, ap, sym, ◌∙◌, arith, cond, eqb-true, subst}
+use Rattle.std.proofs.Common.{◌≡◌, ℕ, ◌+◌, ◌≤◌, inl, inr, true, false, List, [], ◌∷◌, ◌++◌, Option, Some, None, refl, ap, sym, ◌∙◌, arith, eqb-true, subst}
 use Rattle.std.proofs.lemmas.Bool.{cases_lt}
-use Rattle.std.specs.List.{find, sum_by}
+use Rattle.std.specs.List.{find}
 use Rattle.std.proofs.lemmas.List.Sums.{sum_by_push}
 use Rattle.gw_pool.specs.declared.limits.Limits.{Limits}
 use Rattle.gw_pool.specs.declared.holding.Holding.{Holding}
-use Rattle.gw_pool.specs.declared.rows.Place.TheVariants.{Out, Idle}
+use Rattle.gw_pool.specs.declared.rows.Place.TheVariants.{Out}
 use Rattle.gw_pool.specs.declared.rows.WantRow.{WantRow}
 use Rattle.gw_pool.specs.declared.rows.ConnRow.{ConnRow}
 use Rattle.gw_pool.specs.declared.rows.DialRow.{DialRow}
-use Rattle.gw_pool.specs.Core.{IsMade, IsQuiet}
+use Rattle.gw_pool.specs.Core.{IsMade}
 use Rattle.gw_pool.specs.Places.{is_granted}
 use Rattle.gw_pool.specs.State.{State, wants_it, dials_for, has_number, is_with, take_oldest}
-use Rattle.gw_pool.specs.Machine.{want_step, start_row, dialed_row, failed_row, cancel_row, cancel_conn, back_row, drop_row, units}
+use Rattle.gw_pool.specs.Machine.{want_step, start_row, dialed_row, failed_row, cancel_row, cancel_conn, back_row, drop_row}
 use Rattle.gw_pool.specs.Shelf.{is_taken, LeavesTaken, LeavesOthers}
 use Rattle.gw_pool.specs.Tokens.{names, change, holds, ticket_of, has_ticket, has_dial, has_lease, with_dial, without_dial, without_ticket, leased, without_lease}
 use Rattle.gw_pool.proofs.Edits.{found_passes}
 use Rattle.gw_pool.proofs.Weights.{Weigh, weight, want_weight, conn_weight, place_weight, start_less, drop_less, drop_dials, back_less, back_dials, cancel_less, cancel_dials, cancel_conn_less, cancel_conn_dials, failed_less, failed_dials, dialed_adds, dialed_dials, oldest_keeps}
-use Rattle.gw_pool.proofs.Ties.{one, bit, occ_of, dia_of, con_of, dials_of, decide, one_same, one_other, After, changed, kept, Renames}
-use Rattle.gw_pool.proofs.TieCalls.{Has, has, kept_ticket, kept_dial, kept_lease, stage_one, undialed_dials, nothing_there, gone_dials, dial_found}
+use Rattle.gw_pool.proofs.Ties.{one, bit, occ_of, dials_of, decide, one_same, one_other, changed, Renames}
+use Rattle.gw_pool.proofs.TieCalls.{has, kept_ticket, kept_dial, kept_lease, stage_one, undialed_dials, nothing_there, gone_dials, dial_found}
 use Rattle.gw_pool.proofs.TieWant.{made_want, gone_want, adds_at_most, adds_none, want_dials, find_push_other, find_push_here, count_none}
 use Rattle.gw_pool.proofs.Numbers.{Numbers}
 use Rattle.gw_turn.specs.Tie.{Ties, Spares, Fresh, Moves}

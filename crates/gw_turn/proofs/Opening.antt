@@ -1,6 +1,6 @@
 -- A pool that is opened meets the rule of the turn, and its passes are cut off one by one.
-use Rattle.std.proofs.Common.{◌≡◌, ◌≢◌, ℕ, zero, suc, ◌+◌, ◌-◌, ◌<◌, ◌≤◌, ◌==◌, ◌⊎◌, inl, inr, Bool, true, false, List, [], ◌∷◌, ◌++◌, length, refl, sym, ap, ◌∙◌, subst, ⊎_elim, arith, cond, nat_lt, Some, None, lt-ltb, le-ltb, map}
-use Rattle.std.specs.List.{sum_by, find}
+use Rattle.std.proofs.Common.{◌≡◌, ℕ, zero, suc, ◌+◌, ◌-◌, ◌<◌, ◌≤◌, inl, inr, List, [], ◌∷◌, ◌++◌, length, refl, sym, ap, ◌∙◌, subst, arith, nat_lt, Some, lt-ltb, le-ltb}
+use Rattle.std.specs.List.{sum_by}
 use Rattle.std.proofs.lemmas.Bool.{cases_lt}
 use Rattle.std.proofs.lemmas.List.Sums.{sum_by-cons}
 use Rattle.std.proofs.lemmas.List.Elements.{All-nil}
@@ -9,9 +9,8 @@ use lib.ListN.{get_elem?}
 use Rattle.atomic_table.specs.Table.{opening}
 use Rattle.atomic_table.specs.Seated.{TableId}
 use Rattle.gw_pool.specs.declared.limits.Limits.{Limits}
-use Rattle.gw_pool.specs.declared.entry.Entry.{Entry}
-use Rattle.gw_pool.specs.State.{State, empty}
-use Rattle.gw_pool.specs.History.{IsLegal, AreBelow, after}
+use Rattle.gw_pool.specs.State.{empty}
+use Rattle.gw_pool.specs.History.{IsLegal, after}
 use Rattle.gw_pool.specs.Core.{CoreView}
 use Rattle.gw_pool.specs.Ties.{Among, one, bit, occ_of, Weigh}
 use Rattle.gw_pool.proofs.Ties.{decide, one_same, one_other}
@@ -20,7 +19,7 @@ use Rattle.gw_turn.specs.declared.view.Member.{Member}
 use Rattle.gw_turn.specs.declared.view.PassView.{PassView}
 use Rattle.gw_turn.specs.Owner.{owner}
 use Rattle.gw_turn.specs.Tie.{Ties}
-use Rattle.gw_turn.specs.Turn.{unused, unused_from, begun, first_view, core_at, counts, size, IsKnown, Fits, IsKept}
+use Rattle.gw_turn.specs.Turn.{unused, unused_from, begun, first_view, IsKnown, Fits, IsKept}
 use Rattle.gw_turn.specs.Steps.{Others, right_of, split_left, split_right}
 use Rattle.gw_turn.specs.Pass.{PassState, fresh_pass, fresh_passes}
 

@@ -1,24 +1,18 @@
 -- In each legal history each row of a want is its owner's.
-use Rattle.std.proofs.Common.{◌≡◌, ℕ, ◌+◌, ◌<◌, ◌≤◌, ◌==◌, ◌⊎◌, inl, inr, Bool, true, false, List, [], ◌∷◌, ◌++◌, Option, Some, None, refl, ap, sym, ◌∙◌, subst, arith, cond, eq-eqb, ne_eqb}
+use Rattle.std.proofs.Common.{◌≡◌, ℕ, inl, inr, List, [], ◌∷◌, ◌++◌, Some, None, refl, ap, sym, ◌∙◌, subst, arith, eq-eqb, ne_eqb}
 use Rattle.gw_pool.specs.declared.limits.Limits.{Limits}
 use Rattle.gw_pool.specs.declared.entry.Entry.{Entry}
 use Rattle.gw_pool.specs.declared.entry.Call.{Call}
 use Rattle.gw_pool.specs.declared.entry.Call.TheVariants as call
 use Rattle.gw_pool.specs.declared.entry.Reply.{Reply}
-use Rattle.gw_pool.specs.declared.entry.Reply.TheVariants as reply
 use Rattle.gw_pool.specs.declared.rows.Place.{Place}
 use Rattle.gw_pool.specs.declared.rows.Place.TheVariants.{Out, Idle}
-use Rattle.gw_pool.specs.declared.rows.ConnRow.{ConnRow}
-use Rattle.gw_pool.specs.State.{State, empty, take_oldest, is_free, is_expired, newest_stamp, take_newest, take_stamped_for}
-use Rattle.gw_pool.specs.Places.{since_of}
-use Rattle.gw_pool.specs.Laws.{is_number}
-use Rattle.gw_pool.specs.Core.{IsMade}
-use Rattle.gw_pool.specs.Machine.{Outcome, step, want_step, want_by, want_new, want_idle}
+use Rattle.gw_pool.specs.State.{State, empty}
+use Rattle.gw_pool.specs.Machine.{Outcome, step, want_step}
 use Rattle.gw_pool.specs.History.{IsLegal, after}
-use Rattle.gw_pool.proofs.Inverts.{want_was, start_was, dialed_was, failed_was, cancel_was, back_was, drop_was, expire_was, close_was, CancelRowWas, CancelConnWas}
-use Rattle.gw_pool.proofs.Weights.{Weigh, want_adds, start_less, dialed_adds, failed_less, cancel_less, cancel_conn_less, back_less, drop_less, oldest_keeps}
+use Rattle.gw_pool.proofs.Inverts.{want_was, start_was, dialed_was, failed_was, cancel_was, back_was, drop_was, expire_was, close_was}
+use Rattle.gw_pool.proofs.Weights.{start_less, dialed_adds, failed_less, cancel_less, cancel_conn_less, back_less, drop_less, oldest_keeps}
 use Rattle.gw_pool.proofs.Ties.{con_of}
-use Rattle.gw_pool.proofs.TieWant.{made_want}
 use Rattle.gw_pool.proofs.Walk.{walk}
 use Rattle.gw_turn.specs.Owner.{made_by, made_by_reply, owners_after, owners_from, owner, Rows, PlaceIs, Owned, IsOwned}
 use Rattle.gw_turn.proofs.RowSteps.{MakesOr, makes_or, start_rows, dialed_rows, failed_rows, cancel_rows, cancel_conn_rows, back_rows, drop_rows, oldest_rows, want_rows}

@@ -6,7 +6,6 @@ use Rattle.gw_wire.specs.Link.{LinkView}
 use Rattle.gw_pool.specs.declared.entry.Call.{Call}
 use Rattle.gw_pool.specs.declared.entry.Entry.{Entry}
 use Rattle.gw_pool.specs.declared.entry.Call.TheVariants as call
-use Rattle.gw_pool.specs.declared.holding.Holding.{Holding}
 use Rattle.gw_pool.specs.declared.rows.Place.{Place}
 use Rattle.gw_pool.specs.declared.rows.Place.TheVariants.{Out}
 use Rattle.gw_pool.specs.declared.rows.ConnRow.{ConnRow}
@@ -14,23 +13,23 @@ use Rattle.gw_pool.specs.declared.leases.Ticket.{Ticket}
 use Rattle.gw_pool.specs.declared.leases.DialToken.{DialToken}
 use Rattle.gw_pool.specs.declared.leases.Lease.{Lease}
 use Rattle.gw_pool.specs.declared.leases.Put.{Put}
-use Rattle.gw_pool.specs.State.{State, wants_it, dials_for, has_number, is_with}
+use Rattle.gw_pool.specs.State.{State, has_number, is_with}
 use Rattle.gw_pool.specs.Machine.{Outcome, step, Standing, Served, MayDial, NotServed, NotComing, standing}
-use Rattle.gw_pool.specs.History.{after, mine}
-use Rattle.gw_pool.specs.Tokens.{change, has_ticket, has_dial, has_lease, with_dial, without_dial, without_ticket, leased, without_lease}
+use Rattle.gw_pool.specs.History.{after}
+use Rattle.gw_pool.specs.Tokens.{change, has_ticket, has_dial, with_dial, without_dial, without_ticket, leased, without_lease}
 use Rattle.gw_pool.specs.Core.{CoreView, Enters, Started, NotStarted, Done, DonePut, CancelDone, IsBack, IsOut, IdleTaken as CoreIdle, IdleNot as CoreNot, IdleDone, state_at, AskTaken as CoreTaken}
 use Rattle.gw_pool.specs.Lent as lent
 use Rattle.gw_pool.specs.Lent.{Lent, Looks, LeaseOf, row_of}
-use Rattle.gw_pool.proofs.Inverts.{start_was, dialed_was, failed_was, cancel_was, back_was, drop_was, expire_was, close_was, IdleWas, CancelRowWas, CancelConnWas}
+use Rattle.gw_pool.proofs.Inverts.{start_was, dialed_was, failed_was, cancel_was, back_was, drop_was, IdleWas, CancelRowWas, CancelConnWas}
 use Rattle.gw_pool.proofs.Shelves.{out_at}
 use Rattle.gw_pool.proofs.Edits.{found_passes}
 use Rattle.gw_pool.proofs.Owns.{found_among}
-use Rattle.gw_pool.proofs.SoloCalls.{not_coming_rows, is_back}
+use Rattle.gw_pool.proofs.SoloCalls.{not_coming_rows}
 use Rattle.gw_pool.proofs.TieCalls.{leased_has}
 use Rattle.gw_turn.specs.Owner.{owner}
 use Rattle.gw_turn.specs.Tie.{Moves}
 use Rattle.gw_turn.specs.Meeting.{Meeting, Entering, Leaving, known}
-use Rattle.gw_turn.proofs.Moving.{move_drop, move_back, move_cancel, move_cancel_conn, move_none, move_lease, move_same, move_start, move_failed, move_dialed, move_idle}
+use Rattle.gw_turn.proofs.Moving.{move_drop, move_back, move_cancel, move_cancel_conn, move_none, move_lease, move_start, move_failed, move_dialed, move_idle}
 use Rattle.gw_turn.proofs.Callers.{want_caller, dial_caller, conn_caller, served_place, served_number, ticket_own, dial_own}
 use Rattle.gw_turn.proofs.Staying.{stays}
 use Rattle.gw_turn.proofs.CoreCalls.{calls, looks, entering, leaving, leaving_same, numbers, owned}

@@ -1,6 +1,6 @@
 -- What holds of the want and the caller of each row stays so from step to step: a step's rows are of wants that had rows,
 -- with the same callers, or of the new want.
-use Rattle.std.proofs.Common.{◌≡◌, ℕ, ◌+◌, ◌⊎◌, inl, inr, Bool, true, false, List, [], ◌∷◌, ◌++◌, Option, Some, None, refl, ap, subst, cond, nat_lt}
+use Rattle.std.proofs.Common.{◌≡◌, ℕ, ◌+◌, ◌⊎◌, inl, inr, Bool, true, false, [], ◌∷◌, ◌++◌, Option, Some, None, refl, ap, subst, cond, nat_lt}
 use Rattle.std.specs.List.{find, count_by}
 use Rattle.gw_pool.specs.declared.limits.Limits.{Limits}
 use Rattle.gw_pool.specs.declared.entry.Reply.TheVariants as reply
@@ -13,7 +13,6 @@ use Rattle.gw_pool.specs.Places.{is_granted, since_of}
 use Rattle.gw_pool.specs.State.{State, remove_first, least_want, least_waiting, wants_host, waits_for, waits_as, wants_as, wants_it, dials_for, is_with, has_number, is_free, is_expired, rests, rests_for, rests_since_stamp, rests_for_since_stamp, take_stamped, take_stamped_for, take_oldest, take_newest, oldest_stamp, newest_stamp}
 use Rattle.gw_pool.specs.Offer.{Offered, grant_to, grant, evict, evict_row, rest, freed, served, offer_to, offer_conn}
 use Rattle.gw_pool.specs.Machine.{Outcome, replied, want_new, want_idle, want_by, want_step, start_row, dialed_conn, dialed_to, dialed_row, failed_to, failed_row, cancel_row, cancel_conn, back_row, drop_row}
-use Rattle.gw_pool.specs.Ties.{Among}
 use Rattle.gw_pool.proofs.Room.{Picked, picked}
 use Rattle.gw_pool.proofs.Owns.{among_left, among_push, found_among}
 use Rattle.gw_turn.specs.Owner.{made_by_reply, Rows, PlaceIs}

@@ -1,5 +1,5 @@
 -- Whose a want is: the caller whose entry made it. Each row of a want is its owner's.
-use Rattle.std.specs.Prelude.{◌≡◌, ℕ, ◌<◌, Bool, List, [], ◌∷◌, Option, Some, None, if◌then◌else◌}
+use Rattle.std.specs.Prelude.{◌≡◌, ℕ, ◌<◌, List, [], ◌∷◌, Option, Some, None, if◌then◌else◌}
 use Rattle.gw_pool.specs.declared.entry.Entry.{Entry}
 use Rattle.gw_pool.specs.declared.entry.Call.{Call}
 use Rattle.gw_pool.specs.declared.entry.Call.TheVariants as call

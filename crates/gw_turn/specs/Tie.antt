@@ -1,6 +1,6 @@
 -- What ties the tokens of one of several callers to the rows of the pool, and what a call of one leaves of it to the
 -- others.
-use Rattle.std.specs.Prelude.{◌≡◌, ℕ, ◌+◌, ◌<◌, ◌≤◌, Bool, true, false, List, [], ◌∷◌, find, sum_by, None}
+use Rattle.std.specs.Prelude.{◌≡◌, ℕ, ◌+◌, ◌<◌, ◌≤◌, true, false, List, find, sum_by, None}
 use Rattle.gw_pool.specs.declared.holding.Holding.{Holding}
 use Rattle.gw_pool.specs.State.{State}
 use Rattle.gw_pool.specs.Shelf.{is_taken}

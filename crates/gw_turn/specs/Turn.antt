@@ -1,17 +1,15 @@
 -- The rule of the turn. The pool's state lies in a slot, and who has the turn has it. A history H is legal; the count word
 -- is its length, and the state stands for its end. What each pass has seen is a beginning of H, and one has seen all of
 -- it. For each pass, its own entries are those of its number in H, and its tokens are tied to its rows at H's end.
-use Rattle.std.specs.Prelude.{◌≡◌, ℕ, zero, suc, ◌+◌, ◌-◌, ◌<◌, ◌≤◌, ◌==◌, Bool, true, false, List, [], ◌∷◌, ◌++◌, length, sum_by, slice_index, nat_lt, Option, Some, None, if◌then◌else◌}
+use Rattle.std.specs.Prelude.{◌≡◌, ℕ, zero, suc, ◌+◌, ◌-◌, ◌<◌, ◌≤◌, true, false, List, [], ◌∷◌, ◌++◌, length, sum_by, slice_index, nat_lt, Option, Some, if◌then◌else◌}
 use mathlib.Core.Option.{some}
 use lib.ListN.{get_elem?}
 use Rattle.atomic_table.specs.Table.{State}
 use Rattle.gw_pool.specs.declared.limits.Limits.{Limits}
 use Rattle.gw_pool.specs.declared.entry.Entry.{Entry}
-use Rattle.gw_pool.specs.declared.holding.Holding.{Holding}
 use Rattle.gw_pool.specs.Core.{CoreView}
 use Rattle.gw_pool.specs.Ties.{Among, one, bit}
 use Rattle.gw_pool.specs.History.{IsLegal, AreBelow, after, mine}
-use Rattle.gw_pool.specs.Lent.{Lent}
 use Rattle.gw_turn.specs.declared.view.Member.{Member}
 use Rattle.gw_turn.specs.declared.view.PassView.{PassView}
 use Rattle.gw_turn.specs.Owner.{owner}

@@ -1,6 +1,6 @@
-use Rattle.std.proofs.Common.{◌≡◌, ◌+◌, ◌-◌, ◌<◌, ◌≤◌, ◌∙◌, [], ◌∷◌, ◌++◌, length, refl, sym, ap, subst, arith}
-use Rattle.gw_turn.specs.Pass.{PassState, fresh_pass}
-use Rattle.gw_turn.specs.Steps.{Others, right_of, split_right}
+use Rattle.std.proofs.Common.{◌≡◌, ◌+◌, ◌-◌, ◌∙◌, [], ◌∷◌, ◌++◌, refl, sym, ap, subst, arith}
+use Rattle.gw_turn.specs.Pass.{fresh_pass}
+use Rattle.gw_turn.specs.Steps.{Others, split_right}
 use Rattle.gw_turn.specs.declared.view.PassView.{PassView}
 use Rattle.gw_turn.proofs.Opening.{rest_of, rest_others, rest_right, made_length, made_next}
 use Rattle.gw_turn.proofs.pool.hand_out.Goals as goal

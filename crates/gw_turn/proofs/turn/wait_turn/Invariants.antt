@@ -1,4 +1,4 @@
-use Rattle.std.proofs.Common.{◌≡◌, ℕ}
+use Rattle.std.proofs.Common.{◌≡◌}
 use Rattle.gw_turn.specs.Steps.{IsSame}
 use Rattle.gw_turn.proofs.turn.wait_turn.Given as goal
 

@@ -1,11 +1,9 @@
 -- How a want of one pass stands.
-use Rattle.std.proofs.Common.{◌≡◌, ◌∙◌, ◌++◌, ◌∷◌, ◌<◌, ◌≤◌, [], ap, sym, subst, refl, length, arith}
-use Rattle.gw_pool.specs.Core as core
+use Rattle.std.proofs.Common.{◌∙◌, ap, sym, subst, refl}
 use Rattle.gw_pool.specs.Lent as lent
-use Rattle.gw_pool.specs.Tokens.{ticket_of, change, with_dial, without_dial, without_ticket, leased, without_lease}
-use Rattle.gw_pool.specs.declared.entry.Call.TheVariants as call
-use Rattle.gw_turn.specs.Meeting.{Entering, Leaving}
-use Rattle.gw_turn.proofs.Beginning.{begun, enters, leaves, becomes, few}
+use Rattle.gw_pool.specs.Tokens.{change, without_ticket, leased}
+use Rattle.gw_turn.specs.Meeting.{Leaving}
+use Rattle.gw_turn.proofs.Beginning.{begun, leaves, becomes}
 use Rattle.gw_turn.proofs.CoreCalls.{leaving_same}
 use Rattle.gw_turn.proofs.RowCalls.{leave_taken, leave_none, ask_taken, ask_granted, ask_not_yet, ask_failed}
 use Rattle.gw_turn.proofs.pool.Pool.ask.Goals as goal

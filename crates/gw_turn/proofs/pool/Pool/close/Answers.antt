@@ -1,10 +1,6 @@
-use Rattle.std.proofs.Common.{◌≡◌, ◌∙◌, List, sym, ap, subst}
-use Rattle.std.specs.List.{All}
-use Rattle.gw_pool.specs.declared.entry.Entry.{Entry}
-use Rattle.gw_turn.specs.declared.view.Member.{Member}
+use Rattle.std.proofs.Common.{◌≡◌, ◌∙◌, sym, ap}
 use Rattle.gw_turn.specs.declared.view.PassView.{PassView}
 use Rattle.gw_turn.specs.Pass.{PassState, state_of}
-use Rattle.gw_turn.specs.Steps.{IsIn}
 use Rattle.gw_turn.proofs.Leaving.{leave_same, slot_same, view_same}
 use Rattle.gw_turn.proofs.pool.Pool.close.Goals as goal
 

@@ -1,12 +1,11 @@
 -- The least recently idle connection is taken out by one pass.
-use Rattle.std.proofs.Common.{◌≡◌, ◌∙◌, ◌++◌, ◌∷◌, ◌<◌, ◌≤◌, [], ap, sym, subst, refl, length, arith}
+use Rattle.std.proofs.Common.{sym, subst, refl}
 use Rattle.gw_pool.specs.Core as core
 use Rattle.gw_pool.specs.Lent as lent
-use Rattle.gw_pool.specs.Tokens.{ticket_of, change, with_dial, without_dial, without_ticket, leased, without_lease}
 use Rattle.gw_pool.specs.declared.entry.Call.TheVariants as call
 use Rattle.gw_turn.specs.Meeting.{Entering, Leaving}
-use Rattle.gw_turn.proofs.Beginning.{begun, enters, leaves, becomes, few}
-use Rattle.gw_pool.proofs.Inverts.{expire_was, close_was}
+use Rattle.gw_turn.proofs.Beginning.{begun, enters, leaves, becomes}
+use Rattle.gw_pool.proofs.Inverts.{close_was}
 use Rattle.gw_turn.proofs.CoreCalls.{leaving_same}
 use Rattle.gw_turn.proofs.RowCalls.{enter_idle, idle_taken, idle_not}
 use Rattle.gw_turn.proofs.pool.Pool.close_idle.Goals as goal

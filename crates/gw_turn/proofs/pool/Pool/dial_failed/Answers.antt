@@ -1,11 +1,9 @@
 -- A dial of one pass failed.
-use Rattle.std.proofs.Common.{◌≡◌, ◌∙◌, ◌++◌, ◌∷◌, ◌<◌, ◌≤◌, [], ap, sym, subst, refl, length, arith}
-use Rattle.gw_pool.specs.Core as core
+use Rattle.std.proofs.Common.{◌∙◌, ap, sym, subst}
 use Rattle.gw_pool.specs.Lent as lent
-use Rattle.gw_pool.specs.Tokens.{ticket_of, change, with_dial, without_dial, without_ticket, leased, without_lease}
-use Rattle.gw_pool.specs.declared.entry.Call.TheVariants as call
-use Rattle.gw_turn.specs.Meeting.{Entering, Leaving}
-use Rattle.gw_turn.proofs.Beginning.{begun, enters, leaves, becomes, few}
+use Rattle.gw_pool.specs.Tokens.{change, without_dial}
+use Rattle.gw_turn.specs.Meeting.{Entering}
+use Rattle.gw_turn.proofs.Beginning.{begun, enters, becomes}
 use Rattle.gw_pool.specs.Core.{state_at}
 use Rattle.gw_turn.specs.Owner.{owner}
 use Rattle.gw_turn.proofs.Callers.{has_dial_row}

@@ -1,4 +1,3 @@
-use Rattle.std.proofs.Common.{◌++◌, ◌∷◌, [], ◌∙◌, ap, Some}
 use Rattle.gw_turn.proofs.Opening.{opened}
 use Rattle.gw_turn.proofs.pool.Pool.open.Goals as goal
 

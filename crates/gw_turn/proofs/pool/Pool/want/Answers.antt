@@ -1,9 +1,8 @@
 -- A want of one pass.
-use Rattle.std.proofs.Common.{◌≡◌, ◌∙◌, ◌++◌, ◌∷◌, ◌<◌, ◌≤◌, [], ap, sym, subst, refl, length, arith}
+use Rattle.std.proofs.Common.{◌∙◌, ◌++◌, ◌∷◌, [], ap, sym, subst, refl}
 use Rattle.gw_pool.specs.Core as core
 use Rattle.gw_pool.specs.Lent as lent
-use Rattle.gw_pool.specs.Tokens.{ticket_of, change, with_dial, without_dial, without_ticket, leased, without_lease}
-use Rattle.gw_pool.specs.declared.entry.Call.TheVariants as call
+use Rattle.gw_pool.specs.Tokens.{ticket_of}
 use Rattle.gw_turn.specs.Meeting.{Entering, Leaving}
 use Rattle.gw_turn.proofs.Beginning.{begun, enters, leaves, becomes, few}
 use Rattle.gw_turn.proofs.CoreCalls.{enter_made, enter_expired, want_made, want_expired, want_full, leaving_same}
