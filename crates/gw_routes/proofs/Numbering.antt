@@ -20,7 +20,7 @@ use Rattle.gw_routes.specs.declared.table.Table.{Table}
 use Rattle.gw_routes.specs.Kinds.{Said, ◌>>=◌, fault, or_fault, json_said, list_said, whole_of, in_range, number_of, number_said}
 use Rattle.gw_routes.specs.Names.{names_said}
 use Rattle.gw_routes.specs.Routes.{RouteList, RouteText, IsWithin, leads_to, is_same, host_at, hosts_at, host_of, route_said, with_route, routes_from, count_of, no_routes, items_said, routes_said}
-use Rattle.gw_routes.specs.Files.{TopText, IsTableOf, AreNumbered, listen_said, workers_bounds, journal_bounds, top_said, file_said}
+use Rattle.gw_routes.specs.Files.{TopText, IsTableOf, AreNumbered, listen_said, pool_said, workers_bounds, journal_bounds, top_said, file_said}
 
 -- what is said in two steps is said in the first, and then in the second
 then_ok : {A B : Type 0} (s : Said A) (f : A → Said B) (y : B) → s >>= f ≡ Ok y → (x : A) × (s ≡ Ok x) × (f x ≡ Ok y)
@@ -140,9 +140,10 @@ good_top d t e =
     let a = then_ok (names_said None d) _ t e in
     let b = then_ok (listen_said d) _ t a.2 in
     let c = then_ok (number_said (codes "workers") workers_bounds None d) _ t b.2 in
-    let f = then_ok (number_said (codes "journal") journal_bounds None d) _ t c.2 in
+    let p = then_ok (pool_said d) _ t c.2 in
+    let f = then_ok (number_said (codes "journal") journal_bounds None d) _ t p.2 in
     let g = then_ok (routes_said d) _ t f.2 in
-    let same : record { listen = b.0; workers = c.0; journal = f.0; routes = g.0 } ≡ t = ok_same _ t g.2 in
+    let same : record { listen = b.0; workers = c.0; pool = p.0; journal = f.0; routes = g.0 } ≡ t = ok_same _ t g.2 in
     let within = said_within (codes "workers") workers_bounds None d c.0 (omega arith) (omega arith) c.1 in
     subst (λ x. IsGood x) same (record { routes = full_routes d g.0 g.1; least = within.0; most = within.1 })
 

@@ -14,7 +14,7 @@ use Rattle.gw_routes.specs.Addresses.{address_of}
 use Rattle.gw_routes.specs.Kinds.{in_range, json_said, list_said, number_of, number_said, required, text_said}
 use Rattle.gw_routes.specs.Names.{is_known, members_said, names_said}
 use Rattle.gw_routes.specs.Routes.{backend_said, items_said, leads_to, route_pattern, route_said, routes_from, routes_said, with_route}
-use Rattle.gw_routes.specs.Files.{file_said, journal_bounds, listen_said, top_said}
+use Rattle.gw_routes.specs.Files.{file_said, idle_ms_bounds, idle_total_bounds, journal_bounds, listen_said, pool_said, top_said}
 
 -- ---- addresses
 
@@ -64,6 +64,24 @@ journal_null : number_said (codes "journal") journal_bounds None (object (member
 unfolding number_said number_of
 journal_null = refl
 
+idle_total_0 : number_said (codes "idle_total") idle_total_bounds None (object (member (codes "idle_total") (number (unsigned 0)) no_members)) ≡ Err (Bad OutOfRange None None)
+unfolding number_said number_of in_range
+idle_total_0 = refl
+
+idle_ms_0 : number_said (codes "idle_ms") idle_ms_bounds None (object (member (codes "idle_ms") (number (unsigned 0)) no_members)) ≡ Ok 0
+unfolding number_said number_of in_range
+idle_ms_0 = refl
+
+no_pool : pool_said (object no_members) ≡ Ok (record { idle_total = 100; idle_per_host = 2; conns_per_host = 0; idle_ms = 90000 })
+unfolding pool_said number_said number_of
+no_pool = refl
+
+whole_pool : pool_said (object (member (codes "idle_ms") (number (unsigned 86400000)) (member (codes "conns_per_host") (number (unsigned 9))
+    (member (codes "idle_per_host") (number (unsigned 7)) (member (codes "idle_total") (number (unsigned 1000)) no_members)))))
+    ≡ Ok (record { idle_total = 1000; idle_per_host = 7; conns_per_host = 9; idle_ms = 86400000 })
+unfolding pool_said number_said number_of in_range
+whole_pool = refl
+
 -- ---- routes
 
 no_object : route_said 3 null ≡ Err (Bad WrongKind (Some 3) None)
@@ -92,6 +110,7 @@ one_route : file_said (codes "{\"listen\":\"127.0.0.1:8080\",\"workers\":1,\"rou
     ≡ Ok (record {
       listen = record { local = false; ip = 127 ∷ 0 ∷ 0 ∷ 1 ∷ []; port = 8080 };
       workers = 1;
+      pool = record { idle_total = 100; idle_per_host = 2; conns_per_host = 0; idle_ms = 90000 };
       journal = 1048576;
       routes = record {
         hosts = record { local = false; ip = 127 ∷ 0 ∷ 0 ∷ 1 ∷ []; port = 9000 } ∷ [];
@@ -99,5 +118,5 @@ one_route : file_said (codes "{\"listen\":\"127.0.0.1:8080\",\"workers\":1,\"rou
         patterns = record { method = None; host = []; segs = Rest [] ∷ [] } ∷ [];
       };
     })
-unfolding file_said json_said is_utf8 chars serde_json_on_literals top_said names_said members_said is_known listen_said text_said required number_said number_of in_range routes_said list_said items_said routes_from route_said route_pattern pattern_said cut_said method_said target_said host_said path_said cleaned segs_said seg_said braced_said literal_of backend_said with_route address_of digits
+unfolding file_said json_said is_utf8 chars serde_json_on_literals top_said names_said members_said is_known listen_said text_said required number_said number_of in_range pool_said routes_said list_said items_said routes_from route_said route_pattern pattern_said cut_said method_said target_said host_said path_said cleaned segs_said seg_said braced_said literal_of backend_said with_route address_of digits
 one_route = refl

@@ -10,6 +10,7 @@ use Rattle.gw_routes.specs.declared.fault.GCode.TheVariants.{BadAddress}
 use Rattle.gw_routes.specs.declared.fault.RouteError.{RouteError}
 use Rattle.gw_routes.specs.declared.fault.RouteError.TheVariants.{Bad, Conflict, NoMemory}
 use Rattle.gw_routes.specs.declared.kinds.Bounds.{Bounds}
+use Rattle.gw_routes.specs.declared.pool_limits.PoolLimits.{PoolLimits}
 use Rattle.gw_routes.specs.declared.table.Table.{Table}
 use Rattle.gw_routes.specs.declared.top.Top.{Top}
 use Rattle.gw_routes.specs.Addresses.{address_of}
@@ -17,15 +18,35 @@ use Rattle.gw_routes.specs.Kinds.{Said, ◌>>=◌, or_fault, json_said, text_sai
 use Rattle.gw_routes.specs.Names.{names_said}
 use Rattle.gw_routes.specs.Routes.{IsWithin, RouteList, route_list, routes_said}
 
+-- what the file says of the pool's idle connections, and of the connections to one backend
+pub record PoolText : Type 0 where
+  pub idle_total : ℕ
+  pub idle_per_host : ℕ
+  pub conns_per_host : ℕ
+  pub idle_ms : ℕ
+
 -- what stands at the top
 pub record TopText : Type 0 where
   pub listen : Addr
   pub workers : ℕ
+  pub pool : PoolText
   pub journal : ℕ
   pub routes : RouteList
 
 abbrev pub workers_bounds : Bounds
 workers_bounds = record { least = 1; most = 1; default = 1 }
+
+abbrev pub idle_total_bounds : Bounds
+idle_total_bounds = record { least = 1; most = 1000; default = 100 }
+
+abbrev pub idle_per_host_bounds : Bounds
+idle_per_host_bounds = record { least = 0; most = 1000; default = 2 }
+
+abbrev pub conns_per_host_bounds : Bounds
+conns_per_host_bounds = record { least = 0; most = 1000; default = 0 }
+
+abbrev pub idle_ms_bounds : Bounds
+idle_ms_bounds = record { least = 0; most = 86400000; default = 90000 }
 
 abbrev pub journal_bounds : Bounds
 journal_bounds = record { least = 16; most = 4194304; default = 1048576 }
@@ -35,30 +56,42 @@ listen_said d = do
   text ← text_said (codes "listen") None d
   or_fault BadAddress None (address_of text)
 
+unfoldable pub pool_said : Data → Said PoolText
+pool_said d = do
+  idle_total ← number_said (codes "idle_total") idle_total_bounds None d
+  idle_per_host ← number_said (codes "idle_per_host") idle_per_host_bounds None d
+  conns_per_host ← number_said (codes "conns_per_host") conns_per_host_bounds None d
+  idle_ms ← number_said (codes "idle_ms") idle_ms_bounds None d
+  Ok (record { idle_total = idle_total; idle_per_host = idle_per_host; conns_per_host = conns_per_host; idle_ms = idle_ms })
+
 unfoldable pub top_said : Data → Said TopText
 top_said d = do
   known ← names_said None d
   listen ← listen_said d
   workers ← number_said (codes "workers") workers_bounds None d
+  pool ← pool_said d
   journal ← number_said (codes "journal") journal_bounds None d
   routes ← routes_said d
-  Ok (record { listen = listen; workers = workers; journal = journal; routes = routes })
+  Ok (record { listen = listen; workers = workers; pool = pool; journal = journal; routes = routes })
+
+abbrev pub pool_text : PoolLimits → PoolText
+pool_text p = record { idle_total = p.idle_total; idle_per_host = p.idle_per_host; conns_per_host = p.conns_per_host; idle_ms = p.idle_ms }
 
 abbrev pub top_text : Top → TopText
-top_text t = record { listen = t.listen; workers = t.workers; journal = t.journal; routes = route_list t.routes }
+top_text t = record { listen = t.listen; workers = t.workers; pool = pool_text t.pool; journal = t.journal; routes = route_list t.routes }
 
 unfoldable pub file_said : List ℕ → Said TopText
 file_said bytes = do
   d ← json_said bytes
   top_said d
 
--- the limits of the pool; what the file can't name yet has its default
-abbrev pub limits_with : ℕ → ℕ → ℕ → Limits
-limits_with workers journal hosts = record {
-  idle_total = 100;
-  idle_per_host = 2;
-  conns_per_host = 0;
-  idle_ms = 90000;
+-- the limits of the pool: the file's own numbers, a pass for each worker, and the hosts that its routes name
+abbrev pub limits_with : ℕ → PoolText → ℕ → ℕ → Limits
+limits_with workers pool journal hosts = record {
+  idle_total = pool.idle_total;
+  idle_per_host = pool.idle_per_host;
+  conns_per_host = pool.conns_per_host;
+  idle_ms = pool.idle_ms;
   journal = journal;
   passes = workers;
   per_pass = 1;
@@ -66,7 +99,7 @@ limits_with workers journal hosts = record {
 }
 
 abbrev pub limits_of : TopText → Limits
-limits_of t = limits_with t.workers t.journal (length t.routes.hosts)
+limits_of t = limits_with t.workers t.pool t.journal (length t.routes.hosts)
 
 -- the table of what is said
 pub record IsTableOf (t : TopText) (table : Table) : Type 0 where

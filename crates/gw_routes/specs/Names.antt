@@ -5,10 +5,15 @@ use Rattle.serde_json.specs.Find.{as_object}
 use Rattle.gw_routes.specs.declared.fault.GCode.TheVariants.{UnknownName, WrongKind}
 use Rattle.gw_routes.specs.Kinds.{Said, ◌>>=◌, fault, or_fault}
 
+-- of the pool's numbers
+abbrev pub is_pool_name : List ℕ → Bool
+is_pool_name name =
+    bytes_eq name (codes "idle_total") || bytes_eq name (codes "idle_per_host") || bytes_eq name (codes "conns_per_host") || bytes_eq name (codes "idle_ms")
+
 -- at the top
 abbrev pub is_top_name : List ℕ → Bool
 is_top_name name =
-    bytes_eq name (codes "listen") || bytes_eq name (codes "workers") || bytes_eq name (codes "journal") || bytes_eq name (codes "routes")
+    bytes_eq name (codes "listen") || bytes_eq name (codes "workers") || is_pool_name name || bytes_eq name (codes "journal") || bytes_eq name (codes "routes")
 
 -- in a route
 abbrev pub is_route_name : List ℕ → Bool

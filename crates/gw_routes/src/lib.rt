@@ -7,6 +7,7 @@ mod kinds;
 mod laws;
 mod names;
 mod placing;
+mod pool_limits;
 mod reading;
 mod route;
 mod table;

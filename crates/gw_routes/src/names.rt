@@ -2,17 +2,33 @@
 ghost use Rattle.std.specs.Prelude.{◌≡◌};
 ghost use Rattle.serde_json.specs.View.{view, members_view};
 ghost use Rattle.gw_routes.specs.Kinds.{Gives};
-ghost use Rattle.gw_routes.specs.Names.{is_known, members_said, names_said};
+ghost use Rattle.gw_routes.specs.Names.{is_known, is_pool_name, is_top_name, members_said, names_said};
 
 use crate::fault::{GCode, RouteError};
 use serde_json::{Map, Value};
+
+fn is_pool_name(name: &str) -> bool
+    ensures { result ≡ is_pool_name name.now }
+{
+    name == "idle_total" || name == "idle_per_host" || name == "conns_per_host" || name == "idle_ms"
+}
+
+fn is_top_name(name: &str) -> bool
+    ensures { result ≡ is_top_name name.now }
+{
+    name == "listen"
+        || name == "workers"
+        || is_pool_name(name)
+        || name == "journal"
+        || name == "routes"
+}
 
 #[tactic(auto, unfolding(crate::specs::Names::is_known))]
 fn is_known(route: Option<u32>, name: &str) -> bool
     ensures { result ≡ is_known route name.now }
 {
     match route {
-        None => name == "listen" || name == "workers" || name == "journal" || name == "routes",
+        None => is_top_name(name),
         Some(_) => name == "pattern" || name == "backend",
     }
 }

@@ -10,6 +10,7 @@ use crate::fault::{GCode, RouteError};
 use crate::kinds::{Bounds, number_at, read_value, text_at};
 use crate::names::check_names;
 use crate::placing::{Placed, read_all};
+use crate::pool_limits::{PoolLimits, read_pool};
 use gw_wire::Addr;
 use serde_json::Value;
 use std::alloc::Global;
@@ -19,6 +20,7 @@ use std::alloc::Global;
 pub(crate) struct Top {
     pub(crate) listen: Addr,
     pub(crate) workers: u32,
+    pub(crate) pool: PoolLimits,
     pub(crate) journal: u32,
     pub(crate) routes: Placed,
 }
@@ -48,6 +50,7 @@ fn read_top(alloc: Global, file: &Value) -> Result<Top, RouteError>
         default: 1,
     };
     let workers = number_at(file, "workers", workers, None)?;
+    let pool = read_pool(file)?;
     let journal = Bounds {
         least: 16,
         most: 4_194_304,
@@ -58,6 +61,7 @@ fn read_top(alloc: Global, file: &Value) -> Result<Top, RouteError>
     Ok(Top {
         listen,
         workers,
+        pool,
         journal,
         routes,
     })

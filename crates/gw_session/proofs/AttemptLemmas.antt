@@ -22,7 +22,8 @@ use Rattle.gw_session.specs.declared.gather.Gathered.TheVariants as gathered
 use Rattle.gw_session.specs.declared.waits.Heard.TheVariants as heard
 use Rattle.gw_session.specs.declared.waits.Loss.{Loss}
 use Rattle.gw_session.specs.declared.waits.Loss.TheVariants as loss
-use Rattle.gw_session.specs.Attempt.{Attempts, TakesPart, HearsBehind, HearsReply, HearsRest, IsFinalHead, IsRefusedReply, is_final, lost_by}
+use Rattle.gw_session.specs.Attempt.{Attempts, TakesPart, HearsReply, HearsRest, IsFinalHead, IsRefusedReply, has_more, is_final, lost_by}
+use Rattle.gw_session.specs.Gathering.{HearsBody}
 use Rattle.gw_session.specs.Hearing.{HearsHead}
 use Rattle.gw_session.specs.Waits.{HeardStep, Writes, loss_acts}
 use Rattle.gw_session.proofs.HearLemmas.{behind_head, told_read}
@@ -108,8 +109,10 @@ joined : (k : ℕ) (front kept method : List ℕ) (head : ReplyHead) (result : A
     → Then (HearsHead k [] (front ++ kept)) (HearsRest k head method kept result) l → HearsReply k method result l
 joined k front kept method head (answered.Whole reply) f l p =
     let q = p.4 in
-    let P : ReplyHead → Type 0 = λ h. (reply.framing ≡ reply_framing_of h method) × HearsBehind k method h (gathered.Whole reply.body) l in
-    subst P (sym q.0) (q.1, (front, kept, q.2, f, (p.0, p.1, p.2, p.3, q.3)))
+    let P : ReplyHead → Type 0 = λ h. (reply.framing ≡ reply_framing_of h method)
+    × ((front : List ℕ) × (kept : List ℕ) × (ahead : List ℕ) × IsFinalHead front h × (reply.surplus ≡ has_more ahead)
+    × Then (HearsHead k [] (front ++ kept)) (HearsBody k (reply_framing_of h method) kept ahead (gathered.Whole reply.body)) l) in
+    subst P (sym q.0) (q.1, (front, kept, q.2, f, q.3, (p.0, p.1, p.2, p.3, q.4)))
 joined k front kept method head answered.Broken f l p =
     let q = p.4 in inr (inr (head, q.0, q.1, (front, kept, q.2, f, (p.0, p.1, p.2, p.3, q.3))))
 joined k front kept method head answered.Late f l p =

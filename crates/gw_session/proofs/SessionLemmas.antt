@@ -27,12 +27,13 @@ use Rattle.gw_session.specs.declared.request.Request.{Request}
 use Rattle.gw_session.specs.declared.request.Request.TheVariants as request
 use Rattle.gw_session.specs.declared.waits.Sent.TheVariants as sent
 use Rattle.gw_session.specs.Ending.{has_body, why_after}
-use Rattle.gw_session.specs.Leased.{IsVacant}
+use Rattle.gw_session.specs.Resting.{IsRested}
 use Rattle.gw_session.specs.Replies.{Said, Unsaid, SaidAt, next_behind}
 use Rattle.gw_session.specs.Session.{Behind, Follow, GoingOn, ServedStep, Serves, ServesOn, Serving, SessionStep, is_last, made_by, moments_by}
 use Rattle.gw_session.specs.Turn.{Deed, Undecided, Owned, Stopped, Faulty, Passed, Turn, Unheard, Refused, Heard, FitsAt, Turned, TurnStep, began_in, deed_next, failed_in, made_in, moments_in, stop_next, turn_next, unheard_next, waits_in}
 use Rattle.gw_session.specs.Waits.{GoesOn}
-use Rattle.gw_session.proofs.ExchangeLemmas.{grown_none, then_closed}
+use Rattle.gw_session.proofs.ExchangeLemmas.{then_closed}
+use Rattle.gw_session.proofs.LeaseLemmas.{grown_none}
 use Rattle.gw_session.proofs.PoolLemmas.{grows_then}
 use Rattle.gw_session.proofs.SayLemmas.{rises_then, rises_to}
 use Rattle.gw_session.proofs.TurnLemmas.{goes_then, told_as}
@@ -56,10 +57,10 @@ follow_push limits history (x ∷ xs) turn f h =
 sum_push : (f : Turn → ℕ) (turns : List Turn) (turn : Turn) → sum_by f (turns ++ turn ∷ []) ≡ sum_by f turns + f turn
 sum_push f turns turn = sum_by-append f turns (turn ∷ []) ∙ ap (λ n. sum_by f turns + n) (sum_by-cons f turn [] ∙ (omega arith))
 
-pub serving_none : (old new : WireView) (a : Lent) («from» to : LinkView) → IsVacant a → GoesOn old new «from» to
+pub serving_none : (old new : WireView) (a : Lent) («from» to : LinkView) → IsRested a → GoesOn old new «from» to
     → Serving old new a a 0 []
 serving_none old new a «from» to v goes = record {
-  vacant = v;
+  rested = v;
   count = refl;
   fits = tt;
   grows = grown_none a;
@@ -74,7 +75,7 @@ serving_more old mid new a b c «from» at to peer table last kept ahead met now
     let Q : List Entry → Type 0 = λ l. FitsAt b.limits l t.turn in
     let R : Limits → Type 0 = λ l. FitsAt l (a.seen ++ made_by turns) t.turn in
     record {
-      vacant = t.vacant;
+      rested = t.rested;
       count = let e = s.count in let f = t.count in let g = sum_push began_in turns t.turn in omega arith;
       fits = follow_push a.limits a.seen turns t.turn s.fits (subst R s.grows.limits (subst Q s.grows.seen t.fits));
       grows = rw (made_push turns t.turn) (grows_then a b c _ _ s.grows t.grows);
@@ -120,7 +121,7 @@ serves_last k peer groups table number ahead next turns turn result last l e n p
 
 -- ---- the session so far
 
-pub going_begins : (wire : WireView) (a : Lent) (client : LinkView) (peer : List ℕ) (table : Table) (ahead : List ℕ) → IsVacant a → wire.aged ≡ false → ahead ≡ []
+pub going_begins : (wire : WireView) (a : Lent) (client : LinkView) (peer : List ℕ) (table : Table) (ahead : List ℕ) → IsRested a → wire.aged ≡ false → ahead ≡ []
     → GoingOn wire wire a a client client peer table 1 ahead 0 []
 going_begins wire a client peer table ahead v fresh none =
     let goes : GoesOn wire wire client client = record { later = later_same wire; link = link_same client; fresh = fresh } in
@@ -175,7 +176,7 @@ going_ends old mid new a b c «from» at to peer table number kept ahead met now
     }
 
 -- memory was wanting for what a session keeps
-pub never_begun : (wire : WireView) (a : Lent) (client : LinkView) (peer : List ℕ) (table : Table) → IsVacant a → wire.aged ≡ false
+pub never_begun : (wire : WireView) (a : Lent) (client : LinkView) (peer : List ℕ) (table : Table) → IsRested a → wire.aged ≡ false
     → ServedStep wire wire a a client client peer table (record { ended = ended.NoMemory; begun = 0 })
 never_begun wire a client peer table v fresh =
     let goes : GoesOn wire wire client client = record { later = later_same wire; link = link_same client; fresh = fresh } in
@@ -200,7 +201,7 @@ session_done old mid new a b client to peer table result s close =
       fresh = close.aged ∙ s.goes.fresh;
       turns = s.turns;
       serving = record {
-        vacant = v.vacant;
+        rested = v.rested;
         count = v.count;
         fits = v.fits;
         grows = v.grows;

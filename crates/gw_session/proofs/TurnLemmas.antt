@@ -29,12 +29,12 @@ use Rattle.gw_session.specs.Ending.{has_body, why_after}
 use Rattle.gw_session.specs.Exchange.{Exchanges, Traded, sent_text}
 use Rattle.gw_session.specs.Gathering.{HearsBody, gathered_waits}
 use Rattle.gw_session.specs.Hearing.{HearsRequest, request_waits}
-use Rattle.gw_session.specs.Leased.{IsVacant}
+use Rattle.gw_session.specs.Resting.{IsRested}
 use Rattle.gw_session.specs.Replies.{SaidActs, SaidAnswer, SaidOwn, refusal_code}
 use Rattle.gw_session.specs.Routing.{IsOwn, IsRouted}
 use Rattle.gw_session.specs.Turn.{Undecided, Owned, Stopped, Faulty, Passed, Trip, Unheard, Refused, Heard, Deeds, DeedStep, HearsUpload, Invites, IsBody, IsStop, IsUnheard, Turned, TurnStep, continue_text, counted, request_began, stop_next, unheard_next, wants_continue}
 use Rattle.gw_session.specs.Waits.{GoesOn, SentStep, Says, Writes}
-use Rattle.gw_session.proofs.ExchangeLemmas.{grown_none}
+use Rattle.gw_session.proofs.LeaseLemmas.{grown_none}
 use Rattle.gw_session.proofs.SayLemmas.{rises_from}
 use Rattle.gw_session.proofs.WaitLemmas.{later_same, later_then, link_same, link_then}
 
@@ -53,10 +53,10 @@ told_as old new P k n e t = let Q : ℕ → Type 0 = λ x. Told old new (P x) in
 
 -- memory was wanting for a decision
 pub undecided_done : (wire : WireView) (a : Lent) (client : LinkView) (peer : List ℕ) (table : Table) (last : Bool) (head : RequestHead) (kept : List ℕ)
-    → IsVacant a → wire.aged ≡ false → DeedStep wire wire a a client client peer table last head kept kept (End ended.NoMemory)
+    → IsRested a → wire.aged ≡ false → DeedStep wire wire a a client client peer table last head kept kept (End ended.NoMemory)
 undecided_done wire a client peer table last head kept v fresh = record {
   goes = record { later = later_same wire; link = link_same client; fresh = fresh };
-  vacant = v;
+  rested = v;
   deed = Undecided;
   next_is = refl;
   fits = tt;
@@ -69,11 +69,11 @@ undecided_done wire a client peer table last head kept v fresh = record {
 
 -- the gateway answered by itself
 pub owned_done : (old new : WireView) (a : Lent) (client to : LinkView) (peer : List ℕ) (table : Table) (last : Bool) (head : RequestHead) (kept : List ℕ) (own : Own) (result : Next)
-    → IsVacant a → IsOwn table head own → SaidOwn old new client to own head.method head.old (why_after head last (has_body head.framing)) result
+    → IsRested a → IsOwn table head own → SaidOwn old new client to own head.method head.old (why_after head last (has_body head.framing)) result
     → DeedStep old new a a client to peer table last head kept kept result
 owned_done old new a client to peer table last head kept own result v is s = record {
   goes = s.goes;
-  vacant = v;
+  rested = v;
   deed = Owned own s.said;
   next_is = s.next_is;
   fits = tt;
@@ -87,11 +87,11 @@ owned_done old new a client to peer table last head kept own result v is s = rec
 
 -- the body wasn't read to an end
 pub stopped_done : (old new : WireView) (a : Lent) (client to : LinkView) (peer : List ℕ) (table : Table) (last : Bool) (head : RequestHead) (kept ahead : List ℕ) (number : ℕ) (upload : Gathered)
-    → IsVacant a → IsRouted table head number → IsStop upload → GoesOn old new client to → RoseBy (gathered_waits upload) old.ticks new.ticks
+    → IsRested a → IsRouted table head number → IsStop upload → GoesOn old new client to → RoseBy (gathered_waits upload) old.ticks new.ticks
     → Told old.log new.log (HearsUpload client.number head kept ahead upload) → DeedStep old new a a client to peer table last head kept ahead (stop_next upload)
 stopped_done old new a client to peer table last head kept ahead number upload v routed stop goes waited told = record {
   goes = goes;
-  vacant = v;
+  rested = v;
   deed = Stopped number upload;
   next_is = refl;
   fits = tt;
@@ -105,7 +105,7 @@ stopped_done old new a client to peer table last head kept ahead number upload v
 
 -- the body had a fault
 pub faulty_done : (old mid new : WireView) (a : Lent) (client at to : LinkView) (peer : List ℕ) (table : Table) (last : Bool) (head : RequestHead) (kept ahead : List ℕ) (number : ℕ) (error : ChunkError) (result : Next)
-    → IsVacant a → IsRouted table head number → GoesOn old mid client at
+    → IsRested a → IsRouted table head number → GoesOn old mid client at
     → Told old.log mid.log (HearsUpload client.number head kept ahead (gathered.Bad error))
     → SaidOwn mid new at to (Plain 400) head.method head.old (Some BadRequest) result → DeedStep old new a a client to peer table last head kept ahead result
 faulty_done old mid new a client at to peer table last head kept ahead number error result v routed goes told s =
@@ -115,7 +115,7 @@ faulty_done old mid new a client at to peer table last head kept ahead number er
     let Y = SaidActs k s.said in
     record {
       goes = goes_then old mid new client at to goes s.goes;
-      vacant = v;
+      rested = v;
       deed = Faulty number error s.said;
       next_is = s.next_is;
       fits = tt;
@@ -136,11 +136,11 @@ pub passed_done : (old mid traded new : WireView) (a b : Lent) (client at to : L
 passed_done old mid traded new a b client at to peer table last head kept ahead body number upload answer result routed is goes told t s =
     let k = client.number in
     let x = t.exchanged in
-    let trip : Trip = record { target = t.target; body = body; answer = answer; link = x.link; made = x.made } in
+    let trip : Trip = record { target = t.target; body = body; answer = answer; course = x.course } in
     let said = told_as traded.log new.log (λ n. SaidActs n s.said) at.number k goes.link.number s.log in
     let text = sent_text head t.target peer body in
     let X = HearsUpload k head kept ahead upload in
-    let Y : (Addr → List Addr) → List Act → Type 0 = λ groups. Exchanges (groups t.target.backend) t.target.host t.target.backend text head.method x.link answer in
+    let Y : (Addr → List Addr) → List Act → Type 0 = λ groups. Exchanges (groups t.target.backend) t.target.host t.target.backend text head.method x.course answer in
     let Z = SaidActs k s.said in
     let P : (Addr → List Addr) → Type 0 = λ groups. Told mid.log traded.log (Y groups) in
     let exchange = subst P goes.later.groups x.log in
@@ -150,10 +150,10 @@ passed_done old mid traded new a b client at to peer table last head kept ahead 
         link = link_then client at to goes.link s.goes.link;
         fresh = s.goes.fresh;
       };
-      vacant = x.vacant;
+      rested = x.rested;
       deed = Passed number upload trip s.said;
       next_is = s.next_is;
-      fits = (x.makes, x.full);
+      fits = x.makes;
       grows = x.grows;
       faults = let e = goes.later.dial_faults in let f = x.faults in let g = s.goes.later.dial_faults in omega arith;
       waited = let e = goes.later.ticks in let f = x.waited in let g = s.waited in omega arith;
@@ -173,12 +173,12 @@ textless k kept text ahead request.NoMemory l u p = p
 
 -- the request was never whole
 pub unheard_done : (old new : WireView) (a : Lent) (client to : LinkView) (peer text : List ℕ) (table : Table) (last : Bool) (kept ahead : List ℕ) (entered now : ℕ) (heard : Request)
-    → IsVacant a → IsUnheard heard → now ≡ counted (entered + request_began heard) → GoesOn old new client to → RoseBy (request_waits heard) old.ticks new.ticks
+    → IsRested a → IsUnheard heard → now ≡ counted (entered + request_began heard) → GoesOn old new client to → RoseBy (request_waits heard) old.ticks new.ticks
     → Told old.log new.log (HearsRequest client.number kept text ahead heard)
     → TurnStep old new a a client to peer table last kept ahead entered now (unheard_next heard)
 unheard_done old new a client to peer text table last kept ahead entered now heard v u n goes waited told = record {
   goes = goes;
-  vacant = v;
+  rested = v;
   turn = Unheard heard;
   next_is = refl;
   count = n;
@@ -193,7 +193,7 @@ unheard_done old new a client to peer text table last kept ahead entered now hea
 
 -- a head was refused
 pub refused_done : (old mid new : WireView) (a : Lent) (client at to : LinkView) (peer text : List ℕ) (table : Table) (last : Bool) (kept ahead : List ℕ) (entered now : ℕ) (error : HeadError) (result : Next)
-    → IsVacant a → now ≡ counted (entered + 1) → GoesOn old mid client at → Told old.log mid.log (HearsRequest client.number kept text ahead (request.Refused error))
+    → IsRested a → now ≡ counted (entered + 1) → GoesOn old mid client at → Told old.log mid.log (HearsRequest client.number kept text ahead (request.Refused error))
     → SaidOwn mid new at to (Plain (refusal_code error)) (codes "GET") false (Some BadRequest) result
     → TurnStep old new a a client to peer table last kept ahead entered now result
 refused_done old mid new a client at to peer text table last kept ahead entered now error result v n goes told s =
@@ -203,7 +203,7 @@ refused_done old mid new a client at to peer text table last kept ahead entered 
     let Y = SaidActs k s.said in
     record {
       goes = goes_then old mid new client at to goes s.goes;
-      vacant = v;
+      rested = v;
       turn = Refused error s.said;
       next_is = s.next_is;
       count = n;
@@ -229,7 +229,7 @@ heard_done old mid new a b client at to peer text table last kept behind ahead e
     let X = HearsRequest k kept text behind (request.Head head) in
     record {
       goes = goes_then old mid new client at to goes d.goes;
-      vacant = d.vacant;
+      rested = d.rested;
       turn = Heard text head d.deed;
       next_is = d.next_is;
       count = n;

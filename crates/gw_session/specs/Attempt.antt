@@ -1,5 +1,5 @@
 -- An attempt to get a reply from a backend: what its link got and gave.
-use Rattle.std.specs.Prelude.{ℕ, ◌≡◌, ◌⊎◌, Bool, true, false, List, [], ◌++◌, nat_le}
+use Rattle.std.specs.Prelude.{ℕ, ◌≡◌, ◌⊎◌, Bool, true, false, not, ◌&&◌, List, [], ◌∷◌, ◌++◌, nat_le}
 use Rattle.gw_wire.specs.declared.values.Act.{Act}
 use Rattle.gw_wire.specs.Stretch.{Then, Either, Acts}
 use Rattle.gw_head.specs.declared.error.HeadError.{HeadError}
@@ -9,12 +9,13 @@ use Rattle.gw_head.specs.Stage.{IsTooLong, IsUndecided}
 use Rattle.gw_body.specs.Framing.{reply_framing_of}
 use Rattle.gw_session.specs.declared.attempt.Answered.{Answered}
 use Rattle.gw_session.specs.declared.attempt.Answered.TheVariants as answered
+use Rattle.gw_session.specs.declared.attempt.Reply.{Reply}
 use Rattle.gw_session.specs.declared.gather.Gathered.{Gathered}
 use Rattle.gw_session.specs.declared.gather.Gathered.TheVariants as gathered
 use Rattle.gw_session.specs.declared.waits.Loss.{Loss}
 use Rattle.gw_session.specs.declared.waits.Loss.TheVariants as loss
 use Rattle.gw_session.specs.declared.waits.Sent.TheVariants as sent
-use Rattle.gw_session.specs.Gathering.{HearsBody}
+use Rattle.gw_session.specs.Gathering.{HearsBody, is_to_end}
 use Rattle.gw_session.specs.Hearing.{HearsHead}
 use Rattle.gw_session.specs.Waits.{Writes, Says, loss_acts}
 
@@ -43,6 +44,17 @@ HearsBehind link method head gathered acts =
     (front : List ℕ) × (kept : List ℕ) × (ahead : List ℕ) × IsFinalHead front head
     × Then (HearsHead link [] (front ++ kept)) (HearsBody link (reply_framing_of head method) kept ahead gathered) acts
 
+-- bytes stand behind a reply
+abbrev pub has_more : List ℕ → Bool
+has_more [] = false
+has_more (byte ∷ bytes) = true
+
+-- a whole reply was heard; it says whether bytes came behind it
+abbrev pub HearsWhole : ℕ → List ℕ → Reply → List Act → Type 0
+HearsWhole link method reply acts =
+    (front : List ℕ) × (kept : List ℕ) × (ahead : List ℕ) × IsFinalHead front reply.head × (reply.surplus ≡ has_more ahead)
+    × Then (HearsHead link [] (front ++ kept)) (HearsBody link (reply_framing_of reply.head method) kept ahead (gathered.Whole reply.body)) acts
+
 -- a link was lost inside the head of a reply
 abbrev pub LosesHead : ℕ → Loss → List Act → Type 0
 LosesHead link why acts = (bytes : List ℕ) × IsUndecided bytes × Then (HearsHead link [] bytes) (Acts (loss_acts link why)) acts
@@ -67,7 +79,7 @@ BreaksBody link method acts = (head : ReplyHead) × (gathered : Gathered) × IsB
 -- what was heard of a backend that was written a whole request with this method
 abbrev pub HearsReply : ℕ → List ℕ → Answered → List Act → Type 0
 HearsReply link method (answered.Whole reply) acts =
-    (reply.framing ≡ reply_framing_of reply.head method) × HearsBehind link method reply.head (gathered.Whole reply.body) acts
+    (reply.framing ≡ reply_framing_of reply.head method) × HearsWhole link method reply acts
 HearsReply link method answered.Broken acts =
     RefusesHead link acts ⊎ ((LosesHead link loss.End acts ⊎ LosesHead link loss.Failed acts) ⊎ BreaksBody link method acts)
 HearsReply link method answered.Late acts =
@@ -93,6 +105,14 @@ attempt_waits answered.Broken = 0
 attempt_waits answered.Late = 1000000
 attempt_waits answered.NoMemory = 0
 
+-- whether the connection serves again: the reply's body was delimited and read to its end, nothing came behind it, the
+-- version is HTTP/1.1 and the backend doesn't close (RFC 9112, section 9.3)
+abbrev pub is_reusable : Answered → Bool
+is_reusable (answered.Whole reply) = not (is_to_end reply.framing) && (not reply.head.old && (not reply.head.close && not reply.surplus))
+is_reusable answered.Broken = false
+is_reusable answered.Late = false
+is_reusable answered.NoMemory = false
+
 -- what comes of an attempt whose link was lost
 abbrev pub lost_by : Loss → Answered
 lost_by loss.End = answered.Broken
@@ -103,7 +123,8 @@ lost_by loss.Timeout = answered.Late
 abbrev pub HearsRest : ℕ → ReplyHead → List ℕ → List ℕ → Answered → List Act → Type 0
 HearsRest link head method kept (answered.Whole reply) acts =
     (reply.head ≡ head) × (reply.framing ≡ reply_framing_of head method)
-    × (ahead : List ℕ) × HearsBody link (reply_framing_of head method) kept ahead (gathered.Whole reply.body) acts
+    × (ahead : List ℕ) × (reply.surplus ≡ has_more ahead)
+    × HearsBody link (reply_framing_of head method) kept ahead (gathered.Whole reply.body) acts
 HearsRest link head method kept answered.Broken acts =
     (gathered : Gathered) × IsBreak gathered × (ahead : List ℕ) × HearsBody link (reply_framing_of head method) kept ahead gathered acts
 HearsRest link head method kept answered.Late acts =

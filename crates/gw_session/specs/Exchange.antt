@@ -1,7 +1,6 @@
 -- The exchange for one request: what the pool and the backend see of it.
-use Rattle.std.specs.Prelude.{ℕ, ◌≡◌, true, false, List, [], ◌∷◌, ◌++◌}
+use Rattle.std.specs.Prelude.{ℕ, ◌≡◌, ◌<◌, Bool, true, false, List, [], ◌∷◌, ◌++◌}
 use Rattle.gw_wire.specs.declared.values.Act.{Act}
-use Rattle.gw_wire.specs.declared.values.Act.TheVariants.{Closed}
 use Rattle.gw_wire.specs.declared.values.Addr.{Addr}
 use Rattle.gw_wire.specs.Causes.{RoseBy}
 use Rattle.gw_wire.specs.Stretch.{Told, Then, Acts}
@@ -15,22 +14,18 @@ use Rattle.gw_proxy.specs.OutRequest.{out_head_of, request_text_of}
 use Rattle.gw_routes.specs.declared.table.Table.{Table}
 use Rattle.gw_session.specs.declared.exchange.Answer.{Answer}
 use Rattle.gw_session.specs.declared.exchange.Answer.TheVariants as answer
-use Rattle.gw_session.specs.Attempt.{Attempts, attempt_waits}
-use Rattle.gw_session.specs.Leased.{IsVacant, Grows, DialsTo, DialFails, made_want, made_failed, made_dialed, made_drop}
+use Rattle.gw_session.specs.Attempt.{Attempts, attempt_waits, is_reusable}
+use Rattle.gw_session.specs.Gone.{gone_links}
+use Rattle.gw_session.specs.Leased.{DialFails, HasLink, IsClearing, IsEnding, IsFailing, IsLeasing, Reaches, closes}
+use Rattle.gw_session.specs.Resting.{IsRested, Grows}
 use Rattle.gw_session.specs.Routing.{Target, LeadsTo}
-
--- an exchange is refused exactly where the history before it leaves no room in the pool's journal
-abbrev pub IsRefusedRightly : Limits → List Entry → Answer → Type 0
-IsRefusedRightly limits history (answer.Tried tried) = is_full limits history ≡ false
-IsRefusedRightly limits history answer.Unreachable = is_full limits history ≡ false
-IsRefusedRightly limits history answer.Full = is_full limits history ≡ true
-IsRefusedRightly limits history answer.NoMemory = Unit {0}
 
 -- how many dials of it failed
 abbrev pub failed_dials : Answer → ℕ
 failed_dials (answer.Tried tried) = 0
 failed_dials answer.Unreachable = 1
 failed_dials answer.Full = 0
+failed_dials answer.Late = 0
 failed_dials answer.NoMemory = 0
 
 -- how many ticks it waited through in a wait that was given up
@@ -38,38 +33,92 @@ abbrev pub answer_waits : Answer → ℕ
 answer_waits (answer.Tried tried) = attempt_waits tried
 answer_waits answer.Unreachable = 0
 answer_waits answer.Full = 0
+answer_waits answer.Late = 0
 answer_waits answer.NoMemory = 0
 
--- the caller's entries: a want that was granted and its dial, and the drop of the connection that it gave
-abbrev pub Makes : ℕ → ℕ → Answer → List Entry → Type 0
-Makes host link (answer.Tried tried) made =
-    (want : ℕ) × (conn : ℕ) × (asked : ℕ) × (dialed : ℕ)
-    × (made ≡ (made_want host want asked ++ made_dialed want conn link dialed) ++ made_drop conn)
-Makes host link answer.Unreachable made = (want : ℕ) × (asked : ℕ) × (made ≡ made_want host want asked ++ made_failed want)
-Makes host link answer.Full made = made ≡ []
-Makes host link answer.NoMemory made = made ≡ []
+-- the course of an exchange: the caller's entries; the links of the expired connections that were closed on the way;
+-- the link of the attempt, and whether it was dialed; the links that were closed behind the attempt
+pub record Course : Type 0 where
+  pub made : List Entry
+  pub cleared : List ℕ
+  pub link : ℕ
+  pub dialed : Bool
+  pub left : List ℕ
 
--- the acts on the backend: one dial, and one attempt on the link that it gave, which is closed behind it
-abbrev pub Exchanges : List Addr → ℕ → Addr → List ℕ → List ℕ → ℕ → Answer → List Act → Type 0
-Exchanges members host backend text method link (answer.Tried tried) acts =
-    Then (DialsTo members host backend link) (Then (Attempts link text method tried) (Acts (Closed link ∷ []))) acts
-Exchanges members host backend text method link answer.Unreachable acts = DialFails members host backend acts
-Exchanges members host backend text method link answer.Full acts = acts ≡ []
-Exchanges members host backend text method link answer.NoMemory acts = acts ≡ []
+-- an attempt was made: a want was served by an idle connection or by a dial, and behind the attempt the connection was
+-- given back exactly where it may serve again, and else dropped. Each connection that left the pool was closed
+pub record MakesTry (limits : Limits) (history : List Entry) (host : ℕ) (reusable : Bool) (c : Course) : Type 0 where
+  pub clearing : List Entry
+  pub leasing : List Entry
+  pub ending : List Entry
+  pub count : ℕ
+  pub conn : ℕ
+  pub parts : c.made ≡ (clearing ++ leasing) ++ ending
+  pub clears : IsClearing host count clearing
+  pub few : count < 1000000
+  pub room : is_full limits (history ++ clearing) ≡ false
+  pub leases : IsLeasing host conn c.link c.dialed leasing
+  pub linked : HasLink limits (history ++ (clearing ++ leasing)) conn c.link
+  pub ends : IsEnding reusable conn ending
+  pub cleared_are : c.cleared ≡ gone_links limits history clearing
+  pub left_are : c.left ≡ gone_links limits (history ++ (clearing ++ leasing)) ending
 
--- an exchange with a host; `link` is the number of the backend's link, where one was dialed
+-- the backend could not be dialed
+pub record MakesFailure (limits : Limits) (history : List Entry) (host : ℕ) (c : Course) : Type 0 where
+  pub clearing : List Entry
+  pub leasing : List Entry
+  pub count : ℕ
+  pub parts : c.made ≡ clearing ++ leasing
+  pub clears : IsClearing host count clearing
+  pub few : count < 1000000
+  pub room : is_full limits (history ++ clearing) ≡ false
+  pub fails : IsFailing host leasing
+  pub cleared_are : c.cleared ≡ gone_links limits history clearing
+
+-- the last want found no room in the journal
+pub record MakesRefusal (limits : Limits) (history : List Entry) (host : ℕ) (c : Course) : Type 0 where
+  pub count : ℕ
+  pub clears : IsClearing host count c.made
+  pub few : count < 1000000
+  pub full : is_full limits (history ++ c.made) ≡ true
+  pub cleared_are : c.cleared ≡ gone_links limits history c.made
+
+-- a million wants found an expired connection
+pub record MakesLate (limits : Limits) (history : List Entry) (host : ℕ) (c : Course) : Type 0 where
+  pub clears : IsClearing host 1000000 c.made
+  pub cleared_are : c.cleared ≡ gone_links limits history c.made
+
+-- the caller's entries behind a history, by what came of the exchange
+abbrev pub Makes : Limits → List Entry → ℕ → Answer → Course → Type 0
+Makes limits history host (answer.Tried tried) c = MakesTry limits history host (is_reusable tried) c
+Makes limits history host answer.Unreachable c = MakesFailure limits history host c
+Makes limits history host answer.Full c = MakesRefusal limits history host c
+Makes limits history host answer.Late c = MakesLate limits history host c
+Makes limits history host answer.NoMemory c = c.made ≡ []
+
+-- the acts on backends: expired connections are closed; a link is dialed, where none was open; one attempt is made on
+-- it; what left the pool then is closed
+abbrev pub Exchanges : List Addr → ℕ → Addr → List ℕ → List ℕ → Course → Answer → List Act → Type 0
+Exchanges members host backend text method c (answer.Tried tried) acts =
+    Then (Then (Acts (closes c.cleared)) (Reaches members host backend c.link c.dialed))
+    (Then (Attempts c.link text method tried) (Acts (closes c.left))) acts
+Exchanges members host backend text method c answer.Unreachable acts =
+    Then (Acts (closes c.cleared)) (DialFails members host backend) acts
+Exchanges members host backend text method c answer.Full acts = acts ≡ closes c.cleared
+Exchanges members host backend text method c answer.Late acts = acts ≡ closes c.cleared
+Exchanges members host backend text method c answer.NoMemory acts = acts ≡ []
+
+-- an exchange with a host
 pub record Exchanged (old new : WireView) (before after : Lent) (host : ℕ) (backend : Addr) (text method : List ℕ) (result : Answer) : Type 0 where
   pub later : Later old new
   pub fresh : new.aged ≡ false
-  pub vacant : IsVacant after
-  pub link : ℕ
-  pub made : List Entry
-  pub makes : Makes host link result made
-  pub full : IsRefusedRightly before.limits before.seen result
-  pub grows : Grows before after made
+  pub rested : IsRested after
+  pub course : Course
+  pub makes : Makes before.limits before.seen host result course
+  pub grows : Grows before after course.made
   pub faults : RoseBy (failed_dials result) old.dial_faults new.dial_faults
   pub waited : RoseBy (answer_waits result) old.ticks new.ticks
-  pub log : Told old.log new.log (Exchanges (old.groups backend) host backend text method link result)
+  pub log : Told old.log new.log (Exchanges (old.groups backend) host backend text method course result)
 
 -- the text that goes to a backend
 abbrev pub sent_text : RequestHead → Target → List ℕ → List ℕ → List ℕ

@@ -1,104 +1,33 @@
--- A pool that has one caller and no connection but the one that is dialed for an exchange.
-use Rattle.std.specs.Prelude.{ℕ, ◌≡◌, ◌+◌, ◌<◌, true, false, List, [], ◌∷◌, ◌++◌, None}
-use Rattle.gw_wire.specs.declared.values.Act.TheVariants.{Dialed, DialFailed}
+-- How an exchange comes to a connection: idle connections that are expired are closed on the way; an idle one serves the
+-- want, or one is dialed for it. And how the connection goes back.
+use Rattle.std.specs.Prelude.{ℕ, ◌≡◌, ◌<◌, Bool, true, false, List, [], ◌∷◌, ◌++◌, All, map, length, find, Option, Some}
 use Rattle.gw_wire.specs.declared.values.Act.{Act}
+use Rattle.gw_wire.specs.declared.values.Act.TheVariants.{Closed, Dialed, DialFailed}
 use Rattle.gw_wire.specs.declared.values.Addr.{Addr}
-use Rattle.gw_wire.specs.Acts.{Logs}
 use Rattle.gw_wire.specs.Causes.{Rose}
 use Rattle.gw_wire.specs.DialStep.{IsOneOf}
 use Rattle.gw_wire.specs.Link.{LinkView}
-use Rattle.gw_wire.specs.Stretch.{Told}
+use Rattle.gw_wire.specs.Stretch.{Told, Then, Acts}
 use Rattle.gw_wire.specs.Wire.{WireView, Later}
 use Rattle.gw_pool.specs.declared.entry.Call.TheVariants as call
 use Rattle.gw_pool.specs.declared.entry.Entry.{Entry}
+use Rattle.gw_pool.specs.declared.entry.Reply.{Reply}
 use Rattle.gw_pool.specs.declared.entry.Reply.TheVariants as reply
-use Rattle.gw_pool.specs.declared.holding.Holding.{Holding}
-use Rattle.gw_pool.specs.declared.leases.Lease.{Lease}
-use Rattle.gw_pool.specs.declared.rows.Place.TheVariants.{Out}
-use Rattle.gw_pool.specs.declared.rows.Stage.TheVariants.{Granted, Dialing}
+use Rattle.gw_pool.specs.declared.limits.Limits.{Limits}
+use Rattle.gw_pool.specs.declared.rows.ConnRow.{ConnRow}
 use Rattle.gw_pool.specs.History.{after, is_full}
-use Rattle.gw_pool.specs.Lent.{Lent, LeaseOf, entry_of}
-use Rattle.gw_pool.specs.State.{State}
-use Rattle.gw_pool.specs.Tokens.{ticket_of, with_dial}
+use Rattle.gw_pool.specs.Lent.{Lent, entry_of}
+use Rattle.gw_pool.specs.State.{has_number}
 use Rattle.gw_session.specs.declared.lease.Leased.{Leased}
 use Rattle.gw_session.specs.declared.lease.Leased.TheVariants as leased
+use Rattle.gw_session.specs.declared.lease.Wanted.{Wanted}
+use Rattle.gw_session.specs.declared.lease.Wanted.TheVariants as wanted
+use Rattle.gw_session.specs.Gone.{gone_links, number_of}
+use Rattle.gw_session.specs.Resting.{IsRested, IsLeased, IsExpiring, Grows, WantsBy, expired_entry, made_back, made_dialed, made_drop, made_failed}
 
--- the states of the pool in the course of an exchange: without a row; with a want that may dial, or dials; with a
--- connection that is out
-abbrev pub bare : ℕ → ℕ → ℕ → State
-bare want conn stamp = record { wants = []; dials = []; conns = []; next_want = want; next_conn = conn; next_stamp = stamp }
-
-abbrev pub granted : ℕ → ℕ → ℕ → ℕ → State
-granted host want conn stamp = record (bare (want + 1) conn stamp) { wants = (record { want = want; host = host; caller = 0; stage = Granted }) ∷ [] }
-
-abbrev pub dialing : ℕ → ℕ → ℕ → ℕ → State
-dialing host want conn stamp = record (bare (want + 1) conn stamp) {
-  wants = (record { want = want; host = host; caller = 0; stage = Dialing }) ∷ [];
-  dials = (record { want = want; host = host; caller = 0 }) ∷ [];
-}
-
-abbrev pub connected : ℕ → ℕ → ℕ → ℕ → ℕ → State
-connected host want conn link stamp = record (bare (want + 1) (conn + 1) stamp) {
-  conns = (record { conn = conn; host = host; link = link; reused = false; place = Out want 0 }) ∷ [];
-}
-
--- the pool's only caller finds it in this state, with these tokens out
-pub record Stands (lent : Lent) (s : State) (out : List Holding) : Type 0 where
-  pub state : after lent.limits lent.seen ≡ s
-  pub tokens : lent.out ≡ out
-  pub number : lent.number ≡ 0
-  pub alone : lent.limits.passes ≡ 1
-  pub one : 0 < lent.limits.per_pass
-
--- there is no want, no dial and no connection
-pub record IsVacant (lent : Lent) : Type 0 where
-  pub want : ℕ
-  pub conn : ℕ
-  pub stamp : ℕ
-  pub stands : Stands lent (bare want conn stamp) []
-
--- there is one want alone, which was granted a place
-pub record IsGranted (lent : Lent) (want : ℕ) : Type 0 where
-  pub host : ℕ
-  pub conn : ℕ
-  pub stamp : ℕ
-  pub stands : Stands lent (granted host want conn stamp) (ticket_of want ∷ [])
-
--- there is one dial alone
-pub record IsDialing (lent : Lent) (want : ℕ) : Type 0 where
-  pub host : ℕ
-  pub conn : ℕ
-  pub stamp : ℕ
-  pub stands : Stands lent (dialing host want conn stamp) (with_dial (ticket_of want) ∷ [])
-
--- there is one connection alone, and it is lent
-abbrev pub lent_to : ℕ → Holding
-lent_to want = record { want = want; ticket = false; dial = false; lease = true }
-
-pub record IsConnected (lent : Lent) (want conn link : ℕ) : Type 0 where
-  pub host : ℕ
-  pub stamp : ℕ
-  pub stands : Stands lent (connected host want conn link stamp) (lent_to want ∷ [])
-
--- the caller made these entries, and nobody else made any
-pub record Grows (before after : Lent) (made : List Entry) : Type 0 where
-  pub limits : after.limits ≡ before.limits
-  pub seen : after.seen ≡ before.seen ++ made
-  pub mine : after.mine ≡ before.mine ++ made
-
--- the entries of a dial for a want, by what came of it
-abbrev pub made_want : ℕ → ℕ → ℕ → List Entry
-made_want host want at = entry_of 0 (call.Want host at) (reply.Granted want) ∷ []
-
-abbrev pub made_failed : ℕ → List Entry
-made_failed want = entry_of 0 (call.Start want) reply.Go ∷ entry_of 0 (call.DialFailed want) (reply.Ended None) ∷ []
-
-abbrev pub made_dialed : ℕ → ℕ → ℕ → ℕ → List Entry
-made_dialed want conn link at =
-    entry_of 0 (call.Start want) reply.Go ∷ entry_of 0 (call.Dialed want link at) (reply.Kept conn) ∷ []
-
-abbrev pub made_drop : ℕ → List Entry
-made_drop conn = entry_of 0 (call.Drop conn) (reply.Dropped None) ∷ []
+-- these links are closed
+abbrev pub closes : List ℕ → List Act
+closes links = map Closed links
 
 -- a dial of a host reached this address, or a member of the group that it stands for, and gave this link or failed
 abbrev pub DialsTo : List Addr → ℕ → Addr → ℕ → List Act → Type 0
@@ -107,41 +36,159 @@ DialsTo members host backend link acts = (reached : Addr) × IsOneOf members bac
 abbrev pub DialFails : List Addr → ℕ → Addr → List Act → Type 0
 DialFails members host backend acts = (reached : Addr) × IsOneOf members backend reached × (acts ≡ DialFailed host reached ∷ [])
 
--- a lease: the connection of its link, and nothing else in the pool
-pub record IsLeased {C : Type 0} (link : C → LinkView) (lent : Lent) (l : Lease C) : Type 0 where
-  pub connected : IsConnected lent l.want l.no l.link
-  pub lease : LeaseOf link lent l
+-- the way to a connection's link: it is dialed, or it was open
+abbrev pub Reaches : List Addr → ℕ → Addr → ℕ → Bool → List Act → Type 0
+Reaches members host backend link true acts = DialsTo members host backend link acts
+Reaches members host backend link false acts = acts ≡ []
 
--- the dial of a granted want
+-- ---- the entries on the way to a connection, by what came of it
+
+-- wants that found an idle connection expired
+abbrev pub AreExpired : ℕ → List Entry → Type 0
+AreExpired host made = All (λ entry. (at : ℕ) × (conn : ℕ) × (entry ≡ expired_entry host at conn)) made
+
+-- idle connections were taken out since they are expired: at most one that was due, and those that so many wants found
+pub record IsClearing (host count : ℕ) (made : List Entry) : Type 0 where
+  pub expiring : List Entry
+  pub expired : List Entry
+  pub parts : made ≡ expiring ++ expired
+  pub due : IsExpiring expiring
+  pub found : AreExpired host expired
+  pub counted : length expired ≡ count
+
+-- a want that an idle connection served; or one that was granted a place, and its dial
+abbrev pub IsLeasing : ℕ → ℕ → ℕ → Bool → List Entry → Type 0
+IsLeasing host conn link false made =
+    (want : ℕ) × (asked : ℕ) × (made ≡ entry_of 0 (call.Want host asked) (reply.Given want conn) ∷ [])
+IsLeasing host conn link true made =
+    (want : ℕ) × (asked : ℕ) × (dialed : ℕ)
+    × (made ≡ entry_of 0 (call.Want host asked) (reply.Granted want) ∷ made_dialed want conn link dialed)
+
+-- a want whose dial failed
+abbrev pub IsFailing : ℕ → List Entry → Type 0
+IsFailing host made =
+    (want : ℕ) × (asked : ℕ) × (made ≡ entry_of 0 (call.Want host asked) (reply.Granted want) ∷ made_failed want)
+
+-- a lease ends: the connection is given back where it may serve again, else dropped
+abbrev pub IsEnding : Bool → ℕ → List Entry → Type 0
+IsEnding true conn made = (at : ℕ) × (answer : Reply) × (made ≡ made_back conn at answer)
+IsEnding false conn made = made ≡ made_drop conn
+
+-- the link of a connection that the pool has behind a history
+abbrev pub HasLink : Limits → List Entry → ℕ → ℕ → Type 0
+HasLink limits history conn link = (row : ConnRow) × (find (has_number conn) (after limits history).conns ≡ Some row) × (row.link ≡ link)
+
+-- ---- the parts of the way
+
+-- what a call left to be closed was closed
+pub record LeftStep {C : Type 0} (link : C → LinkView) (old new : WireView) (left : Option C) : Type 0 where
+  pub later : Later old new
+  pub aged : new.aged ≡ old.aged
+  pub log : Told old.log new.log (Acts (closes (number_of link left)))
+
+-- entries were made by which idle connections left the pool, and those were closed
+pub record Clears (old new : WireView) (before after : Lent) (made : List Entry) : Type 0 where
+  pub later : Later old new
+  pub fresh : new.aged ≡ false
+  pub rested : IsRested after
+  pub grows : Grows before after made
+  pub log : Told old.log new.log (Acts (closes (gone_links before.limits before.seen made)))
+
+pub record ClearStep (old new : WireView) (before after : Lent) : Type 0 where
+  pub made : List Entry
+  pub due : IsExpiring made
+  pub clears : Clears old new before after made
+
+-- a want was made: it may dial, or an idle connection serves it
+pub record Asks (before after : Lent) (host want : ℕ) : Type 0 where
+  pub asked : ℕ
+  pub answer : Reply
+  pub grows : Grows before after (entry_of 0 (call.Want host asked) answer ∷ [])
+  pub by : WantsBy after want answer
+  pub room : is_full before.limits before.seen ≡ false
+
+-- wants until one was made
+abbrev pub WantedBy : Lent → Lent → ℕ → ℕ → Wanted → Type 0
+WantedBy mid after host count (wanted.Ticket t) = (count < 1000000) × Asks mid after host t.want
+WantedBy mid after host count wanted.Full =
+    (count < 1000000) × (is_full mid.limits mid.seen ≡ true) × IsRested after × Grows mid after []
+WantedBy mid after host count wanted.Late = (count ≡ 1000000) × IsRested after × Grows mid after []
+
+pub record WantedStep (old new : WireView) (before after : Lent) (host : ℕ) (result : Wanted) : Type 0 where
+  pub expired : List Entry
+  pub mid : Lent
+  pub found : AreExpired host expired
+  pub clears : Clears old new before mid expired
+  pub does : WantedBy mid after host (length expired) result
+
+-- the dial of a want that was granted a place
 abbrev pub DialedBy : {C : Type 0} → (C → LinkView) → WireView → WireView → Lent → Lent → ℕ → Addr → ℕ → Leased C → Type 0
 DialedBy link old new before after host backend want (leased.Lease l) =
-    (l.want ≡ want) × IsLeased link after l × ((at : ℕ) × Grows before after (made_dialed want l.no l.link at))
+    IsLeased link after l × ((at : ℕ) × Grows before after (made_dialed want l.no l.link at))
     × Told old.log new.log (DialsTo (old.groups backend) host backend l.link)
 DialedBy link old new before after host backend want leased.Unreachable =
-    IsVacant after × Grows before after (made_failed want) × Rose old.dial_faults new.dial_faults
+    IsRested after × Grows before after (made_failed want) × Rose old.dial_faults new.dial_faults
     × Told old.log new.log (DialFails (old.groups backend) host backend)
 DialedBy link old new before after host backend want leased.Full = ⊥
+DialedBy link old new before after host backend want leased.Late = ⊥
 
 pub record DialedStep {C : Type 0} (link : C → LinkView) (old new : WireView) (before after : Lent) (host : ℕ) (backend : Addr) (want : ℕ) (result : Leased C) : Type 0 where
   pub later : Later old new
   pub fresh : new.aged ≡ false
   pub does : DialedBy link old new before after host backend want result
 
--- a want and its dial
-abbrev pub LeasedBy : {C : Type 0} → (C → LinkView) → WireView → WireView → Lent → Lent → ℕ → Addr → Leased C → Type 0
-LeasedBy link old new before after host backend (leased.Lease l) =
-    (is_full before.limits before.seen ≡ false) × IsLeased link after l
-    × ((asked : ℕ) × (dialed : ℕ) × Grows before after (made_want host l.want asked ++ made_dialed l.want l.no l.link dialed))
-    × Told old.log new.log (DialsTo (old.groups backend) host backend l.link)
-LeasedBy link old new before after host backend leased.Unreachable =
-    (is_full before.limits before.seen ≡ false) × IsVacant after
-    × ((want : ℕ) × (asked : ℕ) × Grows before after (made_want host want asked ++ made_failed want))
+-- what a want that was answered so leads to
+abbrev pub GivenBy : {C : Type 0} → (C → LinkView) → WireView → WireView → Lent → Lent → ℕ → Leased C → Type 0
+GivenBy link old new before after conn (leased.Lease l) =
+    (l.no ≡ conn) × IsLeased link after l × Grows before after [] × Told old.log new.log (Acts [])
+GivenBy link old new before after conn leased.Unreachable = ⊥
+GivenBy link old new before after conn leased.Full = ⊥
+GivenBy link old new before after conn leased.Late = ⊥
+
+abbrev pub TakenBy : {C : Type 0} → (C → LinkView) → WireView → WireView → Lent → Lent → ℕ → Addr → ℕ → Leased C → Reply → Type 0
+TakenBy link old new before after host backend want result (reply.Granted w) = DialedBy link old new before after host backend want result
+TakenBy link old new before after host backend want result (reply.Given w conn) = GivenBy link old new before after conn result
+TakenBy link old new before after host backend want result _ = ⊥
+
+pub record TakenStep {C : Type 0} (link : C → LinkView) (old new : WireView) (before after : Lent) (host : ℕ) (backend : Addr) (want : ℕ) (result : Leased C) : Type 0 where
+  pub later : Later old new
+  pub fresh : new.aged ≡ false
+  pub does : (answer : Reply) → WantsBy before want answer → TakenBy link old new before after host backend want result answer
+
+-- ---- the whole way
+
+abbrev pub LeasedBy : {C : Type 0} → (C → LinkView) → WireView → WireView → Lent → Lent → ℕ → Addr → List Entry → List Entry → ℕ → Leased C → Type 0
+LeasedBy link old new before after host backend clearing leasing count (leased.Lease l) =
+    (count < 1000000) × (is_full before.limits (before.seen ++ clearing) ≡ false) × IsLeased link after l
+    × ((dialed : Bool) × IsLeasing host l.no l.link dialed leasing
+    × Told old.log new.log (Then (Acts (closes (gone_links before.limits before.seen clearing))) (Reaches (old.groups backend) host backend l.link dialed)))
+LeasedBy link old new before after host backend clearing leasing count leased.Unreachable =
+    (count < 1000000) × (is_full before.limits (before.seen ++ clearing) ≡ false) × IsRested after × IsFailing host leasing
     × Rose old.dial_faults new.dial_faults
-    × Told old.log new.log (DialFails (old.groups backend) host backend)
-LeasedBy link old new before after host backend leased.Full =
-    (is_full before.limits before.seen ≡ true) × IsVacant after × Grows before after [] × Logs old.log new.log []
+    × Told old.log new.log (Then (Acts (closes (gone_links before.limits before.seen clearing))) (DialFails (old.groups backend) host backend))
+LeasedBy link old new before after host backend clearing leasing count leased.Full =
+    (count < 1000000) × (is_full before.limits (before.seen ++ clearing) ≡ true) × IsRested after × (leasing ≡ [])
+    × Told old.log new.log (Acts (closes (gone_links before.limits before.seen clearing)))
+LeasedBy link old new before after host backend clearing leasing count leased.Late =
+    (count ≡ 1000000) × IsRested after × (leasing ≡ [])
+    × Told old.log new.log (Acts (closes (gone_links before.limits before.seen clearing)))
 
 pub record LeasedStep {C : Type 0} (link : C → LinkView) (old new : WireView) (before after : Lent) (host : ℕ) (backend : Addr) (result : Leased C) : Type 0 where
   pub later : Later old new
   pub fresh : new.aged ≡ false
-  pub does : LeasedBy link old new before after host backend result
+  pub clearing : List Entry
+  pub leasing : List Entry
+  pub count : ℕ
+  pub clears : IsClearing host count clearing
+  pub grows : Grows before after (clearing ++ leasing)
+  pub does : LeasedBy link old new before after host backend clearing leasing count result
+
+-- a lease ended, and the connection that left the pool, if one did, was closed
+pub record EndStep (old new : WireView) (before after : Lent) (conn : ℕ) (reusable : Bool) : Type 0 where
+  pub later : Later old new
+  pub fresh : new.aged ≡ false
+  pub rested : IsRested after
+  pub ending : List Entry
+  pub ends : IsEnding reusable conn ending
+  pub grows : Grows before after ending
+  pub log : Told old.log new.log (Acts (closes (gone_links before.limits before.seen ending)))

@@ -2,10 +2,12 @@ pub mod Attempt
 pub mod Ending
 pub mod Exchange
 pub mod Gathering
+pub mod Gone
 pub mod Hearing
 pub mod Inbox
 pub mod Leased
 pub mod Replies
+pub mod Resting
 pub mod Routing
 pub mod Session
 pub mod Turn

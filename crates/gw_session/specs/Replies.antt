@@ -52,6 +52,7 @@ AnswerText (answer.Tried answered.Late) head close moment text = OwnReply (Plain
 AnswerText (answer.Tried answered.NoMemory) head close moment text = ⊥
 AnswerText answer.Unreachable head close moment text = OwnReply (Plain 502) head.method head.old close moment text
 AnswerText answer.Full head close moment text = OwnReply (Plain 503) head.method head.old close moment text
+AnswerText answer.Late head close moment text = OwnReply (Plain 504) head.method head.old close moment text
 AnswerText answer.NoMemory head close moment text = ⊥
 
 -- a reply that wasn't said, since memory was wanting; or one of this moment, with this text, written so far

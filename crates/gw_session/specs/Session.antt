@@ -16,7 +16,7 @@ use Rattle.gw_session.specs.declared.end.Ended.TheVariants as ended
 use Rattle.gw_session.specs.declared.end.Served.{Served}
 use Rattle.gw_session.specs.declared.end.Next.{Next}
 use Rattle.gw_session.specs.declared.end.Next.TheVariants.{Again, End}
-use Rattle.gw_session.specs.Leased.{IsVacant, Grows}
+use Rattle.gw_session.specs.Resting.{IsRested, Grows}
 use Rattle.gw_session.specs.Replies.{Rises}
 use Rattle.gw_session.specs.Turn.{Turn, Turned, FitsAt, began_in, counted, failed_in, made_in, moments_in, turn_next, waits_in}
 use Rattle.gw_session.specs.Waits.{GoesOn}
@@ -68,7 +68,7 @@ moments_by turns = flat_map moments_in turns
 
 -- turns were served, whatever is said of their acts
 pub record Serving (old new : WireView) (before after : Lent) (begun : ℕ) (turns : List Turn) : Type 0 where
-  pub vacant : IsVacant after
+  pub rested : IsRested after
   pub count : begun ≡ counted (began_by turns)
   pub fits : Follow before.limits before.seen turns
   pub grows : Grows before after (made_by turns)

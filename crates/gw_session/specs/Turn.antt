@@ -28,10 +28,10 @@ use Rattle.gw_session.specs.declared.request.Request.TheVariants as request
 use Rattle.gw_session.specs.declared.waits.Loss.TheVariants as loss
 use Rattle.gw_session.specs.declared.waits.Sent.TheVariants as sent
 use Rattle.gw_session.specs.Ending.{has_body, why_after, why_lost}
-use Rattle.gw_session.specs.Exchange.{Exchanges, Makes, IsRefusedRightly, failed_dials, answer_waits, sent_text}
+use Rattle.gw_session.specs.Exchange.{Course, Exchanges, Makes, failed_dials, answer_waits, sent_text}
 use Rattle.gw_session.specs.Gathering.{HearsBody, gathered_waits}
 use Rattle.gw_session.specs.Hearing.{HearsRequest, request_waits}
-use Rattle.gw_session.specs.Leased.{IsVacant, Grows}
+use Rattle.gw_session.specs.Resting.{IsRested, Grows}
 use Rattle.gw_session.specs.Replies.{AnswerText, IsText, Rises, Said, SaidActs, next_behind, refusal_code, said_moments, said_waits}
 use Rattle.gw_session.specs.Routing.{IsOwn, IsRouted, LeadsTo, Target}
 use Rattle.gw_session.specs.Waits.{GoesOn, Says, Writes}
@@ -75,14 +75,12 @@ IsBody gathered.NoMemory d = ⊥
 
 -- ---- what is done with a request whose head is whole
 
--- a request that was passed on: where to, with which body; what came of it; the number of the backend's link and the
--- caller's entries
+-- a request that was passed on: where to, with which body; what came of it, and how
 pub record Trip : Type 0 where
   pub target : Target
   pub body : List ℕ
   pub answer : Answer
-  pub link : ℕ
-  pub made : List Entry
+  pub course : Course
 
 -- memory was wanting for a decision; or the gateway answered by itself; or the body stopped, or had a fault that was
 -- answered; or the request was passed on by the route of a number, and answered by what came of it
@@ -130,7 +128,7 @@ Deeds client peer groups table last head kept ahead (Passed number upload trip s
     IsRouted table head number × LeadsTo table number trip.target × IsBody upload trip.body
     × IsText (AnswerText trip.answer head (is_some (why_after head last false))) said
     × Then (HearsUpload client head kept ahead upload)
-    (Then (Exchanges (groups trip.target.backend) trip.target.host trip.target.backend (sent_text head trip.target peer trip.body) head.method trip.link trip.answer)
+    (Then (Exchanges (groups trip.target.backend) trip.target.host trip.target.backend (sent_text head trip.target peer trip.body) head.method trip.course trip.answer)
     (SaidActs client said)) acts
 
 -- the caller's entries in it
@@ -139,16 +137,16 @@ deed_made Undecided = []
 deed_made (Owned own said) = []
 deed_made (Stopped number upload) = []
 deed_made (Faulty number error said) = []
-deed_made (Passed number upload trip said) = trip.made
+deed_made (Passed number upload trip said) = trip.course.made
 
--- those are an exchange's entries; it is refused exactly where the history before it leaves no room
+-- those are an exchange's entries behind the history before it
 abbrev pub DeedFits : Limits → List Entry → Deed → Type 0
 DeedFits limits history Undecided = Unit {0}
 DeedFits limits history (Owned own said) = Unit {0}
 DeedFits limits history (Stopped number upload) = Unit {0}
 DeedFits limits history (Faulty number error said) = Unit {0}
 DeedFits limits history (Passed number upload trip said) =
-    Makes trip.target.host trip.link trip.answer trip.made × IsRefusedRightly limits history trip.answer
+    Makes limits history trip.target.host trip.answer trip.course
 
 -- how many dials of it failed, and how many ticks it waited through in waits that were given up
 abbrev pub deed_failed : Deed → ℕ
@@ -178,7 +176,7 @@ pub record DeedStep
     (old new : WireView) (before after : Lent) («from» to : LinkView) (peer : List ℕ) (table : Table) (last : Bool)
     (head : RequestHead) (kept ahead : List ℕ) (result : Next) : Type 0 where
   pub goes : GoesOn old new «from» to
-  pub vacant : IsVacant after
+  pub rested : IsRested after
   pub deed : Deed
   pub next_is : result ≡ deed_next last head deed
   pub fits : DeedFits before.limits before.seen deed
@@ -277,7 +275,7 @@ pub record TurnStep
     (old new : WireView) (before after : Lent) («from» to : LinkView) (peer : List ℕ) (table : Table) (last : Bool)
     (kept ahead : List ℕ) (entered now : ℕ) (result : Next) : Type 0 where
   pub goes : GoesOn old new «from» to
-  pub vacant : IsVacant after
+  pub rested : IsRested after
   pub turn : Turn
   pub next_is : result ≡ turn_next last turn
   pub count : now ≡ counted (entered + began_in turn)

@@ -3,7 +3,8 @@
 ghost use Rattle.std.specs.Prelude.{◌≡◌, false};
 ghost use Rattle.gw_wire.specs.Causes.{RoseBy};
 ghost use Rattle.gw_wire.specs.Stretch.{Told};
-ghost use Rattle.gw_session.specs.Attempt.{Attempts, HearsReply, HearsRest, attempt_waits, lost_by};
+ghost use Rattle.gw_session.specs.Attempt.{Attempts, HearsReply, HearsRest, attempt_waits, has_more, is_reusable, lost_by};
+ghost use Rattle.gw_session.specs.Gathering.{is_to_end};
 ghost use Rattle.gw_session.specs.Waits.{GoesOn};
 
 use crate::gather::{Gathered, gather_body};
@@ -28,6 +29,8 @@ pub struct Reply {
     pub framing: Framing,
     /// The data of its body.
     pub body: Vec<u8>,
+    /// Whether bytes came behind it.
+    pub surplus: bool,
 }
 
 /// What came of an attempt.
@@ -125,10 +128,43 @@ fn hear_rest<W: Wire>(
             head,
             framing,
             body,
+            surplus: has_more(inbox.ahead()),
         }),
         Gathered::Bad(_) => Answered::Broken,
         Gathered::Lost(why) => lost(why),
         Gathered::NoMemory => Answered::NoMemory,
+    }
+}
+
+/// Whether bytes stand behind a reply.
+fn has_more(ahead: &[u8]) -> bool
+    ensures { result ≡ has_more ahead.now }
+{
+    match ahead {
+        [] => false,
+        [_, ..] => true,
+    }
+}
+
+/// Whether a connection serves again behind this attempt (RFC 9112, section 9.3).
+pub fn is_reusable(answered: &Answered) -> bool
+    ensures { result ≡ is_reusable answered.now }
+{
+    match answered {
+        Answered::Whole(reply) => {
+            !is_to_end(reply.framing) && !reply.head.old && !reply.head.close && !reply.surplus
+        }
+        Answered::Broken | Answered::Late | Answered::NoMemory => false,
+    }
+}
+
+/// Whether a body of this framing goes up to the end of its link.
+fn is_to_end(framing: Framing) -> bool
+    ensures { result ≡ is_to_end framing }
+{
+    match framing {
+        Framing::ToEnd => true,
+        Framing::None | Framing::Length(_) | Framing::Chunked => false,
     }
 }
 

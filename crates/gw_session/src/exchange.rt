@@ -1,17 +1,17 @@
-//! The exchange for one request: a connection is wanted and dialed, the request goes to the backend, and its reply is
-//! gathered.
+//! The exchange for one request: a connection to the backend is taken from the pool or dialed, the request goes out over
+//! it, the reply is gathered, and the connection goes back where it may serve again.
 
 ghost use Rattle.std.specs.Prelude.{◌≡◌, ◌<◌, ◌++◌, length, false, IfOk};
 ghost use Rattle.gw_proxy.specs.OutRequest.{out_head_of, request_text_of};
 ghost use Rattle.gw_routes.specs.Files.{AreNumbered};
 ghost use Rattle.gw_session.specs.Exchange.{Exchanged, Traded};
-ghost use Rattle.gw_session.specs.Leased.{IsVacant};
+ghost use Rattle.gw_session.specs.Resting.{IsRested};
 ghost use Rattle.gw_session.specs.Routing.{LeadsTo};
 
-use crate::attempt::{Answered, attempt};
+use crate::attempt::{Answered, attempt, is_reusable};
 use crate::gather::write_body;
 use crate::inbox::Inbox;
-use crate::lease::{Leased, lease};
+use crate::lease::{Leased, end_lease, lease};
 use gw_head::{HeadReader, RequestHead};
 use gw_pool::Leases;
 use gw_proxy::out_request;
@@ -29,6 +29,8 @@ pub enum Answer {
     Unreachable,
     /// The pool's journal has no room.
     Full,
+    /// A million wants in a row found an expired connection.
+    Late,
     /// Memory was wanting for the outgoing request.
     NoMemory,
 }
@@ -47,7 +49,7 @@ pub fn trade<W: Wire, L: Leases<W::Conn>>(
     inbox: &mut Inbox,
 ) -> Answer
     requires fresh { (W.wire wire.old).aged ≡ false }
-    requires vacant { IsVacant (L.lent leases.old) }
+    requires rested { IsRested (L.lent leases.old) }
     requires numbered { AreNumbered table.now }
     requires hosts { (L.lent leases.old).limits.hosts ≡ length table.now.hosts.items }
     requires within { number < length table.now.routes.items }
@@ -101,8 +103,8 @@ fn request_text(
     Ok(text)
 }
 
-/// Sends the text of a request with this method to a host, over a connection that is dialed for it, and gathers the
-/// reply.
+/// Sends the text of a request with this method to a host, over a connection that was idle or is dialed, and gathers
+/// the reply.
 fn exchange<W: Wire, L: Leases<W::Conn>>(
     alloc: Global,
     wire: &mut W,
@@ -115,7 +117,7 @@ fn exchange<W: Wire, L: Leases<W::Conn>>(
     inbox: &mut Inbox,
 ) -> Answer
     requires fresh { (W.wire wire.old).aged ≡ false }
-    requires vacant { IsVacant (L.lent leases.old) }
+    requires rested { IsRested (L.lent leases.old) }
     requires within { host < (L.lent leases.old).limits.hosts }
     ensures { Exchanged (W.wire wire.old) (W.wire wire.new) (L.lent leases.old) (L.lent leases.new) host backend.now text.now method.now result }
 {
@@ -123,11 +125,11 @@ fn exchange<W: Wire, L: Leases<W::Conn>>(
         Leased::Lease(lease) => {
             let mut lease = lease;
             let answered = attempt(alloc, wire, &mut lease.conn, text, method, reader, inbox);
-            let conn = leases.drop_conn(lease);
-            wire.close(conn);
+            end_lease(wire, leases, lease, is_reusable(&answered));
             Answer::Tried(answered)
         }
         Leased::Unreachable => Answer::Unreachable,
         Leased::Full => Answer::Full,
+        Leased::Late => Answer::Late,
     }
 }

@@ -110,6 +110,7 @@ pub fn say_answer<W: Wire>(
         Answer::Tried(Answered::NoMemory) => Next::End(Ended::NoMemory),
         Answer::Unreachable => say_code(alloc, wire, client, 502, head, why),
         Answer::Full => say_code(alloc, wire, client, 503, head, why),
+        Answer::Late => say_code(alloc, wire, client, 504, head, why),
         Answer::NoMemory => Next::End(Ended::NoMemory),
     }
 }

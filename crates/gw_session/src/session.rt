@@ -2,7 +2,7 @@
 
 ghost use Rattle.std.specs.Prelude.{◌≡◌, [], length, false};
 ghost use Rattle.gw_routes.specs.Files.{AreNumbered};
-ghost use Rattle.gw_session.specs.Leased.{IsVacant};
+ghost use Rattle.gw_session.specs.Resting.{IsRested};
 ghost use Rattle.gw_session.specs.Session.{ServedStep, SessionStep};
 
 use crate::end::{Ended, Next, Served};
@@ -33,7 +33,7 @@ pub fn serve_connection<W: Wire, L: Leases<W::Conn>>(
     table: &Table,
 ) -> Served
     requires fresh { (W.wire wire.old).aged ≡ false }
-    requires vacant { IsVacant (L.lent leases.old) }
+    requires rested { IsRested (L.lent leases.old) }
     requires numbered { AreNumbered table.now }
     requires hosts { (L.lent leases.old).limits.hosts ≡ length table.now.hosts.items }
     ensures { SessionStep (W.wire wire.old) (W.wire wire.new) (L.lent leases.old) (L.lent leases.new) (W.Conn.link client).number
@@ -55,7 +55,7 @@ fn serve_client<W: Wire, L: Leases<W::Conn>>(
     table: &Table,
 ) -> Served
     requires fresh { (W.wire wire.old).aged ≡ false }
-    requires vacant { IsVacant (L.lent leases.old) }
+    requires rested { IsRested (L.lent leases.old) }
     requires numbered { AreNumbered table.now }
     requires hosts { (L.lent leases.old).limits.hosts ≡ length table.now.hosts.items }
     ensures { ServedStep (W.wire wire.old) (W.wire wire.new) (L.lent leases.old) (L.lent leases.new) (W.Conn.link client.old) (W.Conn.link client.new)
@@ -96,7 +96,7 @@ fn serve_turns<W: Wire, L: Leases<W::Conn>>(
     spare: &mut Inbox,
 ) -> Served
     requires fresh { (W.wire wire.old).aged ≡ false }
-    requires vacant { IsVacant (L.lent leases.old) }
+    requires rested { IsRested (L.lent leases.old) }
     requires numbered { AreNumbered table.now }
     requires hosts { (L.lent leases.old).limits.hosts ≡ length table.now.hosts.items }
     requires nothing { inbox.old ≡ [] }

@@ -9,7 +9,7 @@ ghost use Rattle.gw_proxy.specs.declared.own.Own.TheVariants.{Plain};
 ghost use Rattle.gw_routes.specs.Files.{AreNumbered};
 ghost use Rattle.gw_session.specs.Ending.{has_body, why_after, why_lost};
 ghost use Rattle.gw_session.specs.Gathering.{gathered_waits};
-ghost use Rattle.gw_session.specs.Leased.{IsVacant};
+ghost use Rattle.gw_session.specs.Resting.{IsRested};
 ghost use Rattle.gw_session.specs.Replies.{refusal_code};
 ghost use Rattle.gw_session.specs.Routing.{IsRouted};
 ghost use Rattle.gw_session.specs.Turn.{DeedStep, HearsUpload, TurnStep, request_began, wants_continue};
@@ -50,7 +50,7 @@ pub(crate) fn serve_turn<W: Wire, L: Leases<W::Conn>>(
     entered: &mut u64,
 ) -> Next
     requires fresh { (W.wire wire.old).aged ≡ false }
-    requires vacant { IsVacant (L.lent leases.old) }
+    requires rested { IsRested (L.lent leases.old) }
     requires numbered { AreNumbered table.now }
     requires hosts { (L.lent leases.old).limits.hosts ≡ length table.now.hosts.items }
     ensures { TurnStep (W.wire wire.old) (W.wire wire.new) (L.lent leases.old) (L.lent leases.new) (W.Conn.link client.old) (W.Conn.link client.new)
@@ -101,7 +101,7 @@ fn respond<W: Wire, L: Leases<W::Conn>>(
     last: bool,
 ) -> Next
     requires fresh { (W.wire wire.old).aged ≡ false }
-    requires vacant { IsVacant (L.lent leases.old) }
+    requires rested { IsRested (L.lent leases.old) }
     requires numbered { AreNumbered table.now }
     requires hosts { (L.lent leases.old).limits.hosts ≡ length table.now.hosts.items }
     ensures { DeedStep (W.wire wire.old) (W.wire wire.new) (L.lent leases.old) (L.lent leases.new) (W.Conn.link client.old) (W.Conn.link client.new)
@@ -135,7 +135,7 @@ fn pass<W: Wire, L: Leases<W::Conn>>(
     last: bool,
 ) -> Next
     requires fresh { (W.wire wire.old).aged ≡ false }
-    requires vacant { IsVacant (L.lent leases.old) }
+    requires rested { IsRested (L.lent leases.old) }
     requires numbered { AreNumbered table.now }
     requires hosts { (L.lent leases.old).limits.hosts ≡ length table.now.hosts.items }
     requires within { number < length table.now.routes.items }

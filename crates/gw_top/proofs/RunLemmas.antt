@@ -20,7 +20,7 @@ use Rattle.gw_pool.specs.Lent.{Lent}
 use Rattle.gw_routes.specs.declared.table.Table.{Table}
 use Rattle.gw_session.specs.declared.end.Ended.{Ended as SessionEnded}
 use Rattle.gw_session.specs.declared.end.Served.{Served}
-use Rattle.gw_session.specs.Leased.{IsVacant, Grows}
+use Rattle.gw_session.specs.Resting.{IsRested, Grows}
 use Rattle.gw_session.specs.Session as Turns
 use Rattle.gw_session.specs.Session.{Session, SessionStep}
 use Rattle.gw_session.specs.Turn.{Turn}
@@ -63,11 +63,11 @@ follow_push limits history (x ∷ xs) v f h =
 sum_push : (f : Visit → ℕ) (visits : List Visit) (v : Visit) → sum_by f (visits ++ v ∷ []) ≡ sum_by f visits + f v
 sum_push f visits v = sum_by-append f visits (v ∷ []) ∙ ap (λ n. sum_by f visits + n) (sum_by-cons f v [] ∙ (omega arith))
 
-pub serving_begins : (wire : WireView) (lent : Lent) (table : Table) → wire.aged ≡ false → IsVacant lent → Serving wire wire lent lent table 0 []
+pub serving_begins : (wire : WireView) (lent : Lent) (table : Table) → wire.aged ≡ false → IsRested lent → Serving wire wire lent lent table 0 []
 serving_begins wire lent table fresh v = record {
   later = later_same wire;
   fresh = fresh;
-  vacant = v;
+  rested = v;
   fits = tt;
   grows = record { limits = refl; seen = sym (append-nil lent.seen); mine = sym (append-nil lent.mine) };
   count = refl;
@@ -83,7 +83,7 @@ pub serving_on : {C : Type 0} (link : C → LinkView) (old mid new : WireView) (
 serving_on link old mid new a b table entered visits s t = record {
   later = later_then old mid new s.later t.later;
   fresh = t.aged ∙ s.fresh;
-  vacant = s.vacant;
+  rested = s.rested;
   fits = s.fits;
   grows = s.grows;
   count = s.count;
@@ -119,7 +119,7 @@ serving_more link old mid met new a b c table entered now visits client peer res
     record {
       later = later_then old mid new w.later (later_then mid met new t.later s.later);
       fresh = s.fresh;
-      vacant = r.vacant;
+      rested = r.rested;
       fits = follow_push a.limits a.seen visits v w.fits (subst R w.grows.limits (subst Q w.grows.seen r.fits));
       grows = subst T (sym (made_push visits v)) (grows_then a b c _ _ w.grows r.grows);
       count = let f = w.count in let g = sum_push (λ x. Turns.began_by x.turns) visits v in let h = r.count in let m = n in omega arith;
@@ -136,7 +136,7 @@ worked_till_end link old mid new a b table entered visits failed e s t = record 
   visits = visits;
   later = later_then old mid new s.later t.later;
   fresh = t.aged ∙ s.fresh;
-  vacant = s.vacant;
+  rested = s.rested;
   fits = s.fits;
   grows = s.grows;
   count = s.count;
@@ -152,7 +152,7 @@ worked_till_failure link old mid new a b table entered visits s t = record {
   visits = visits;
   later = later_then old mid new s.later t.later;
   fresh = t.aged ∙ s.fresh;
-  vacant = s.vacant;
+  rested = s.rested;
   fits = s.fits;
   grows = s.grows;
   count = s.count;

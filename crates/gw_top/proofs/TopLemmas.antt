@@ -101,7 +101,7 @@ deed_along groups others same client peer table last head kept ahead (Faulty num
 deed_along groups others same client peer table last head kept ahead (Passed number upload trip said) l t =
     let P : List Addr → Type 0 = λ members.
     Then (HearsUpload client head kept ahead upload)
-    (Then (Exchanges members trip.target.host trip.target.backend (sent_text head trip.target peer trip.body) head.method trip.link trip.answer)
+    (Then (Exchanges members trip.target.host trip.target.backend (sent_text head trip.target peer trip.body) head.method trip.course trip.answer)
     (SaidActs client said)) l in
     (t.0, t.1, t.2, t.3, subst P (same trip.target.backend) t.4)
 

@@ -13,7 +13,7 @@ use Rattle.gw_pool.specs.Idle.{idle_links}
 use Rattle.gw_pool.specs.Lent.{Lent}
 use Rattle.gw_routes.specs.declared.table.Table.{Table}
 use Rattle.gw_session.specs.declared.end.Ended.{Ended as SessionEnded}
-use Rattle.gw_session.specs.Leased.{IsVacant, Grows}
+use Rattle.gw_session.specs.Resting.{IsRested, Grows}
 use Rattle.gw_session.specs.Replies.{Rises}
 use Rattle.gw_session.specs.Session as Turns
 use Rattle.gw_session.specs.Session.{Session}
@@ -61,7 +61,7 @@ moments_by visits = flat_map (λ v. Turns.moments_by v.turns) visits
 pub record Serving (old new : WireView) (before after : Lent) (table : Table) (entered : ℕ) (visits : List Visit) : Type 0 where
   pub later : Later old new
   pub fresh : new.aged ≡ false
-  pub vacant : IsVacant after
+  pub rested : IsRested after
   pub fits : Follow before.limits before.seen visits
   pub grows : Grows before after (made_by visits)
   pub count : entered ≡ counted (began_by visits)
@@ -79,7 +79,7 @@ pub record Worked (old new : WireView) (before after : Lent) (table : Table) (en
   pub visits : List Visit
   pub later : Later old new
   pub fresh : new.aged ≡ false
-  pub vacant : IsVacant after
+  pub rested : IsRested after
   pub fits : Follow before.limits before.seen visits
   pub grows : Grows before after (made_by visits)
   pub count : entered ≡ counted (began_by visits)

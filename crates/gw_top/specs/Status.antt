@@ -7,7 +7,7 @@ use Rattle.gw_wire.specs.World.{WorldView, WorldLater, ListensNow}
 use Rattle.gw_pool.specs.declared.entry.Entry.{Entry}
 use Rattle.gw_routes.specs.declared.table.Table.{Table}
 use Rattle.gw_routes.specs.Files.{AreNumbered}
-use Rattle.gw_session.specs.Leased.{IsVacant}
+use Rattle.gw_session.specs.Resting.{IsRested}
 use Rattle.gw_top.specs.declared.run.Setup.{Setup}
 use Rattle.gw_top.specs.declared.run.Report.{Report}
 use Rattle.gw_top.specs.declared.worker.Worker.{Worker}
@@ -83,7 +83,7 @@ Ran wire old new words report =
 pub record IsReady {C W : Type 0} (setup : Setup W C) : Type 0 where
   pub numbered : AreNumbered setup.table
   pub limits : setup.pool.limits ≡ setup.table.limits
-  pub vacant : IsVacant setup.pool
+  pub rested : IsRested setup.pool
   pub seen : setup.pool.seen ≡ []
   pub mine : setup.pool.mine ≡ []
   pub nobody : setup.workers.items ≡ []

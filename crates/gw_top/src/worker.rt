@@ -3,7 +3,7 @@
 ghost use Rattle.std.specs.Prelude.{◌≡◌, ◌<◌, length, true, false};
 ghost use Rattle.gw_wire.specs.Causes.{Rose};
 ghost use Rattle.gw_routes.specs.Files.{AreNumbered};
-ghost use Rattle.gw_session.specs.Leased.{IsVacant};
+ghost use Rattle.gw_session.specs.Resting.{IsRested};
 ghost use Rattle.gw_top.specs.Run.{Worked};
 
 use gw_pool::Leases;
@@ -35,7 +35,7 @@ pub fn work<R: Wait, W: Wire, L: Leases<W::Conn>>(
     table: &Table,
 )
     requires fresh { (W.wire worker.old.wire).aged ≡ false }
-    requires vacant { IsVacant (L.lent leases.old) }
+    requires rested { IsRested (L.lent leases.old) }
     requires numbered { AreNumbered table.now }
     requires hosts { (L.lent leases.old).limits.hosts ≡ length table.now.hosts.items }
     requires serving { worker.old.accept_failed ≡ false }

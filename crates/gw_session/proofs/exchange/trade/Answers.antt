@@ -12,5 +12,5 @@ pub returns-in-Err : goal.returns-in-Err
 returns-in-Err g c = record {
   target = record { host = c.way_of-host.result.0; backend = c.way_of-host.result.1.now; base = c.way_of-host.result.2.now };
   leads = c.way_of-host.ensures.leads;
-  exchanged = unasked_done _ _ _ _ _ _ c.requires.vacant c.requires.fresh;
+  exchanged = unasked_done _ _ _ _ _ _ c.requires.rested c.requires.fresh;
 }

@@ -5,7 +5,7 @@ use Rattle.gw_session.proofs.SessionLemmas.{going_begins, going_more, going_ends
 use Rattle.gw_session.proofs.session.serve_turns.Goals as goal
 
 pub loop-number-init : goal.loop-number-init
-loop-number-init g c = ([], going_begins _ _ _ _ _ _ c.requires.vacant c.requires.fresh c.requires.nothing)
+loop-number-init g c = ([], going_begins _ _ _ _ _ _ c.requires.rested c.requires.fresh c.requires.nothing)
 
 pub loop-number-preserved : goal.loop-number-preserved
 loop-number-preserved g c =

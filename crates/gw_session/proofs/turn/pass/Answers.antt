@@ -10,14 +10,14 @@ returns-in-Whole g c =
 
 pub returns-in-Bad : goal.returns-in-Bad
 returns-in-Bad g c =
-    faulty_done _ _ _ _ _ _ _ _ _ _ _ _ _ c.args.number c.in-Bad.field-0 _ c.requires.vacant c.requires.routed c.in-Bad.ensures.goes c.in-Bad.ensures.log c.say_code.ensures
+    faulty_done _ _ _ _ _ _ _ _ _ _ _ _ _ c.args.number c.in-Bad.field-0 _ c.requires.rested c.requires.routed c.in-Bad.ensures.goes c.in-Bad.ensures.log c.say_code.ensures
 
 pub returns-in-Lost : goal.returns-in-Lost
 returns-in-Lost g c =
-    rw (c.why_lost.ensures) (stopped_done _ _ _ _ _ _ _ _ _ _ _ c.args.number (gathered.Lost c.in-Lost.why) c.requires.vacant c.requires.routed tt
+    rw (c.why_lost.ensures) (stopped_done _ _ _ _ _ _ _ _ _ _ _ c.args.number (gathered.Lost c.in-Lost.why) c.requires.rested c.requires.routed tt
     c.in-Lost.ensures.goes c.in-Lost.ensures.waited c.in-Lost.ensures.log)
 
 pub returns-in-NoMemory : goal.returns-in-NoMemory
 returns-in-NoMemory g c =
-    stopped_done _ _ _ _ _ _ _ _ _ _ _ c.args.number gathered.NoMemory c.requires.vacant c.requires.routed tt
+    stopped_done _ _ _ _ _ _ _ _ _ _ _ c.args.number gathered.NoMemory c.requires.rested c.requires.routed tt
     c.in-NoMemory.ensures.goes c.in-NoMemory.ensures.waited c.in-NoMemory.ensures.log

@@ -14,17 +14,17 @@ returns-in-Head g c =
 pub returns-in-Refused : goal.returns-in-Refused
 returns-in-Refused g c =
     let count = c.saturating_add.ensures ∙ ap (λ n. counted (c.args.entered.now + n)) (c.began.ensures ∙ ap request_began c.in-Refused.is) in
-    refused_done _ _ _ _ (g.W.Conn.Link.link c.args.client.now) _ _ _ (bytes_of c.hear_request-request.new.reader) _ _ _ _ _ _ c.in-Refused.error _ c.requires.vacant count c.hear_request-request.ensures.goes
+    refused_done _ _ _ _ (g.W.Conn.Link.link c.args.client.now) _ _ _ (bytes_of c.hear_request-request.new.reader) _ _ _ _ _ _ c.in-Refused.error _ c.requires.rested count c.hear_request-request.ensures.goes
     (rw (c.in-Refused.is) at c.hear_request-request.ensures.log) (rw (c.refusal_code.ensures.code) at c.say_own.ensures)
 
 pub returns-in-Lost : goal.returns-in-Lost
 returns-in-Lost g c =
     let count = c.saturating_add.ensures ∙ ap (λ n. counted (c.args.entered.now + n)) (c.began.ensures ∙ ap request_began c.in-Lost.is) in
-    rw (c.why_lost.ensures) (unheard_done _ _ _ (g.W.Conn.Link.link c.args.client.now) _ _ (bytes_of c.hear_request-request.new.reader) _ _ _ _ _ _ (request.Lost c.in-Lost.why c.in-Lost.field-1) c.requires.vacant tt count c.hear_request-request.ensures.goes
+    rw (c.why_lost.ensures) (unheard_done _ _ _ (g.W.Conn.Link.link c.args.client.now) _ _ (bytes_of c.hear_request-request.new.reader) _ _ _ _ _ _ (request.Lost c.in-Lost.why c.in-Lost.field-1) c.requires.rested tt count c.hear_request-request.ensures.goes
     (rw (c.in-Lost.is) at c.hear_request-request.ensures.waited) (rw (c.in-Lost.is) at c.hear_request-request.ensures.log))
 
 pub returns-in-NoMemory : goal.returns-in-NoMemory
 returns-in-NoMemory g c =
     let count = c.saturating_add.ensures ∙ ap (λ n. counted (c.args.entered.now + n)) (c.began.ensures ∙ ap request_began c.in-NoMemory.is) in
-    unheard_done _ _ _ (g.W.Conn.Link.link c.args.client.now) _ _ (bytes_of c.hear_request-request.new.reader) _ _ _ _ _ _ request.NoMemory c.requires.vacant tt count c.hear_request-request.ensures.goes
+    unheard_done _ _ _ (g.W.Conn.Link.link c.args.client.now) _ _ (bytes_of c.hear_request-request.new.reader) _ _ _ _ _ _ request.NoMemory c.requires.rested tt count c.hear_request-request.ensures.goes
     (rw (c.in-NoMemory.is) at c.hear_request-request.ensures.waited) (rw (c.in-NoMemory.is) at c.hear_request-request.ensures.log)

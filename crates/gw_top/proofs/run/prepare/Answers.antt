@@ -1,5 +1,5 @@
 use Rattle.std.proofs.Common.{◌≡◌, arith}
-use Rattle.gw_session.proofs.PoolLemmas.{vacant_opened}
+use Rattle.gw_session.proofs.PoolLemmas.{rested_opened}
 use Rattle.gw_top.proofs.run.prepare.Goals as goal
 
 pub returns-clause-ready : goal.returns-clause-ready
@@ -9,7 +9,7 @@ returns-clause-ready g c =
     record {
       numbered = c.requires;
       limits = made.limits;
-      vacant = vacant_opened c.in_ok-pool.pool c.args.table.limits made.seen made.out made.number made.limits alone (let o = c.requires.one in omega arith);
+      rested = rested_opened c.in_ok-pool.pool c.args.table.limits made.seen made.out made.number made.limits alone (let o = c.requires.one in omega arith);
       seen = made.seen;
       mine = made.mine;
       nobody = c.in_ok-with_capacity.ensures.items;

@@ -3,7 +3,7 @@ use Rattle.gw_top.proofs.RunLemmas.{serving_begins, serving_more, visit_of, work
 use Rattle.gw_top.proofs.worker.work.Goals as goal
 
 pub loop-client-init : goal.loop-client-init
-loop-client-init g c = (([], rw c.requires.none (serving_begins _ _ c.args.table.now c.requires.fresh c.requires.vacant)), c.requires.serving, refl)
+loop-client-init g c = (([], rw c.requires.none (serving_begins _ _ c.args.table.now c.requires.fresh c.requires.rested)), c.requires.serving, refl)
 
 pub loop-client-preserved-in-Conn : goal.loop-client-preserved-in-Conn
 loop-client-preserved-in-Conn g c =
