@@ -1,5 +1,5 @@
 -- An exchange, call after call, over plain variables.
-use Rattle.std.proofs.Common.{◌≡◌, ℕ, Bool, false, List, [], ◌∷◌, ◌++◌, append-nil, find, Option, Some, refl, ap, sym, ◌∙◌, subst, arith}
+use Rattle.std.proofs.Common.{◌≡◌, ℕ, Bool, false, List, [], ◌∷◌, ◌++◌, append-nil, find, Option, Some, refl, ap, ◌∙◌, subst, arith}
 use Rattle.gw_wire.specs.declared.values.Act.{Act}
 use Rattle.gw_wire.specs.declared.values.Act.TheVariants.{Closed}
 use Rattle.gw_wire.specs.declared.values.Addr.{Addr}
@@ -7,7 +7,7 @@ use Rattle.gw_wire.specs.Causes.{RoseBy}
 use Rattle.gw_wire.specs.Link.{LinkView}
 use Rattle.gw_wire.specs.Stretch.{Told, Then, Acts}
 use Rattle.gw_wire.specs.Wire.{WireView, CloseStep}
-use Rattle.gw_wire.proofs.StretchLemmas.{Logs-none, Told-map, Told-acts, Told-then}
+use Rattle.gw_wire.proofs.StretchLemmas.{Logs-none, Told-acts, Told-then}
 use Rattle.gw_pool.specs.declared.entry.Entry.{Entry}
 use Rattle.gw_pool.specs.declared.leases.Lease.{Lease}
 use Rattle.gw_pool.specs.History.{after}
@@ -20,10 +20,12 @@ use Rattle.gw_session.specs.Attempt.{Attempts, attempt_waits, is_reusable}
 use Rattle.gw_session.specs.Exchange.{Course, Exchanged}
 use Rattle.gw_session.specs.Gone.{gone_links}
 use Rattle.gw_session.specs.Leased.{EndStep, HasLink, IsClearing, IsEnding, LeasedStep, Reaches, closes}
+use Rattle.gw_session.specs.Moments.{Rises, entry_moments}
 use Rattle.gw_session.specs.Resting.{IsLeased, IsRested, Grows}
 use Rattle.gw_session.specs.Waits.{GoesOn}
-use Rattle.gw_session.proofs.LeaseLemmas.{gone_behind, grown_none}
+use Rattle.gw_session.proofs.LeaseLemmas.{gone_behind, grown_none, timed_then}
 use Rattle.gw_session.proofs.PoolLemmas.{grows_then}
+use Rattle.gw_session.proofs.SayLemmas.{rises_from}
 use Rattle.gw_session.proofs.WaitLemmas.{later_same, later_then}
 
 -- the close of a link behind a stretch
@@ -83,6 +85,8 @@ tried_done link old mid tried new a b c host backend text method l at to result 
         left_are = refl;
       };
       grows = grows_then a b c _ _ lent.grows end.grows;
+      timed = timed_then old.moment mid.moment new.moment (lent.clearing ++ lent.leasing) end.ending lent.timed
+          (rises_from mid.moment tried.moment new.moment (entry_moments end.ending) goes.later.moment end.timed);
       faults = let f = lent.later.dial_faults in let g = goes.later.dial_faults in let h = end.later.dial_faults in omega arith;
       waited = let f = lent.later.ticks in let g = waited in let h = end.later.ticks in omega arith;
       log = Told-then old.log mid.log new.log (Then (Acts (closes cleared)) (Reaches (old.groups backend) host backend l.link way.0)) (Then (Attempts l.link text method result) (Acts (closes left))) way.2
@@ -111,6 +115,7 @@ unreachable_done link old new a b host backend text method lent =
         cleared_are = refl;
       };
       grows = lent.grows;
+      timed = lent.timed;
       faults = x.4;
       waited = let f = lent.later.ticks in omega arith;
       log = x.5;
@@ -119,6 +124,9 @@ unreachable_done link old new a b host backend text method lent =
 -- the entries of a way that led nowhere
 only : (a b : Lent) (x y : List Entry) → y ≡ [] → Grows a b (x ++ y) → Grows a b x
 only a b x y e g = let P : List Entry → Type 0 = λ l. Grows a b l in subst P (ap (λ l. x ++ l) e ∙ append-nil x) g
+
+only_timed : (first final : ℕ) (x y : List Entry) → y ≡ [] → Rises first (entry_moments (x ++ y)) final → Rises first (entry_moments x) final
+only_timed first final x y e r = let P : List Entry → Type 0 = λ l. Rises first (entry_moments l) final in subst P (ap (λ l. x ++ l) e ∙ append-nil x) r
 
 pub full_done : {C : Type 0} (link : C → LinkView) (old new : WireView) (a b : Lent) (host : ℕ) (backend : Addr) (text method : List ℕ)
     → LeasedStep link old new a b host backend leased.Full → Exchanged old new a b host backend text method answer.Full
@@ -131,6 +139,7 @@ full_done link old new a b host backend text method lent =
       course = record { made = lent.clearing; cleared = gone_links a.limits a.seen lent.clearing; link = 0; dialed = false; left = [] };
       makes = record { count = lent.count; clears = lent.clears; few = x.0; full = x.1; cleared_are = refl };
       grows = only a b lent.clearing lent.leasing x.3 lent.grows;
+      timed = only_timed old.moment new.moment lent.clearing lent.leasing x.3 lent.timed;
       faults = let f = lent.later.dial_faults in omega arith;
       waited = let f = lent.later.ticks in omega arith;
       log = x.4;
@@ -148,6 +157,7 @@ late_done link old new a b host backend text method lent =
       course = record { made = lent.clearing; cleared = gone_links a.limits a.seen lent.clearing; link = 0; dialed = false; left = [] };
       makes = record { clears = subst P x.0 lent.clears; cleared_are = refl };
       grows = only a b lent.clearing lent.leasing x.2 lent.grows;
+      timed = only_timed old.moment new.moment lent.clearing lent.leasing x.2 lent.timed;
       faults = let f = lent.later.dial_faults in omega arith;
       waited = let f = lent.later.ticks in omega arith;
       log = x.3;
@@ -163,6 +173,7 @@ unasked_done wire a host backend text method v fresh = record {
   course = record { made = []; cleared = []; link = 0; dialed = false; left = [] };
   makes = refl;
   grows = grown_none a;
+  timed = omega arith;
   faults = omega arith;
   waited = omega arith;
   log = Told-acts wire.log wire.log [] (Logs-none wire.log);

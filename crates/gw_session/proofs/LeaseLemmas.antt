@@ -1,5 +1,6 @@
 -- The way to a connection and its end, call after call, over plain variables.
-use Rattle.std.proofs.Common.{◌≡◌, ◌+◌, ◌<◌, ℕ, true, false, List, [], ◌∷◌, ◌++◌, length, length-append, Option, Some, None, refl, ap, sym, ◌∙◌, subst, arith, append_assoc, append-nil}
+use Rattle.std.proofs.Common.{◌≡◌, ◌+◌, ◌<◌, ◌≤◌, ℕ, false, List, [], ◌∷◌, ◌++◌, length, length-append, Option, Some, None, refl, ap, sym, ◌∙◌, subst, arith, append-nil}
+use Rattle.std.proofs.lemmas.Grind.{flat_map-append}
 use Rattle.std.proofs.lemmas.List.Elements.{All-nil, All-push}
 use Rattle.gw_wire.specs.declared.traits.Dial.TheVariants as dials
 use Rattle.gw_wire.specs.declared.values.Act.{Act}
@@ -9,7 +10,7 @@ use Rattle.gw_wire.specs.DialStep.{DialStep}
 use Rattle.gw_wire.specs.Link.{LinkView}
 use Rattle.gw_wire.specs.Stretch.{Told, Then, Acts}
 use Rattle.gw_wire.specs.Wire.{WireView, CloseStep, NowStep}
-use Rattle.gw_wire.proofs.StretchLemmas.{Logs-none, Told-map, Told-acts, Told-then, Told-before_quiet, Told-after_quiet}
+use Rattle.gw_wire.proofs.StretchLemmas.{Logs-none, Told-map, Told-acts, Told-then, Told-before_quiet}
 use Rattle.gw_pool.specs.declared.entry.Call.TheVariants as call
 use Rattle.gw_pool.specs.declared.entry.Entry.{Entry}
 use Rattle.gw_pool.specs.declared.entry.Reply.{Reply}
@@ -26,9 +27,11 @@ use Rattle.gw_session.specs.declared.lease.Leased.{Leased}
 use Rattle.gw_session.specs.declared.lease.Leased.TheVariants as leased
 use Rattle.gw_session.specs.declared.lease.Wanted.TheVariants as wanted
 use Rattle.gw_session.specs.Gone.{gone_links, number_of}
-use Rattle.gw_session.specs.Leased.{AreExpired, IsClearing, LeftStep, Clears, ClearStep, Asks, WantedStep, DialedStep, TakenBy, TakenStep, LeasedStep, EndStep, DialsTo, DialFails, Reaches, closes}
-use Rattle.gw_session.specs.Resting.{IsRested, IsGranted, IsServed, IsSpent, IsLeased, Grows, WantsBy, expired_entry, made_dialed, made_failed}
-use Rattle.gw_session.proofs.PoolLemmas.{was_cleared, was_overdue, was_wanted, was_full, may_dial, taken_granted, waiting_granted, failed_granted, went, was_kept, has_ended, was_taken, granted_served, waiting_served, failed_served, was_spent, taken_spent, granted_spent, waiting_spent, was_dropped, was_returned, gone_then, grows_then, grows_quiet, Kept}
+use Rattle.gw_session.specs.Leased.{AreExpired, LeftStep, Clears, ClearStep, WantedStep, DialedStep, TakenBy, TakenStep, DialsTo, DialFails, closes}
+use Rattle.gw_session.specs.Moments.{Rises, call_moments, entry_moments}
+use Rattle.gw_session.specs.Resting.{IsRested, IsGranted, IsServed, IsSpent, Grows, WantsBy, expired_entry, made_dialed, made_failed}
+use Rattle.gw_session.proofs.PoolLemmas.{was_cleared, was_overdue, was_wanted, was_full, may_dial, taken_granted, waiting_granted, failed_granted, went, was_kept, has_ended, was_taken, granted_served, waiting_served, failed_served, was_spent, taken_spent, granted_spent, waiting_spent, gone_then, grows_then, grows_quiet, Kept}
+use Rattle.gw_session.proofs.SayLemmas.{rises_from, rises_then, rises_to}
 use Rattle.gw_session.proofs.WaitLemmas.{later_same, later_then}
 
 pub grown_none : (a : Lent) → Grows a a []
@@ -36,12 +39,13 @@ grown_none a = record { limits = refl; seen = sym (append-nil a.seen); mine = sy
 
 -- a close of what a call left
 pub left_none : {C : Type 0} (link : C → LinkView) (wire : WireView) → LeftStep link wire wire None
-left_none link wire = record { later = later_same wire; aged = refl; log = Told-acts wire.log wire.log [] (Logs-none wire.log) }
+left_none link wire = record { later = later_same wire; aged = refl; moment = refl; log = Told-acts wire.log wire.log [] (Logs-none wire.log) }
 
 pub left_some : {C : Type 0} (link : C → LinkView) (old new : WireView) (conn : C) → CloseStep old new (link conn).number → LeftStep link old new (Some conn)
 left_some link old new conn c = record {
   later = c.later;
   aged = c.aged;
+  moment = c.moment;
   log = Told-acts old.log new.log (Closed (link conn).number ∷ []) c.log;
 }
 
@@ -71,8 +75,15 @@ clears_none wire a fresh r = record {
   fresh = fresh;
   rested = r;
   grows = grown_none a;
+  timed = omega arith;
   log = Told-acts wire.log wire.log [] (Logs-none wire.log);
 }
+
+-- the moments of entries that follow one another
+pub timed_then : (a b c : ℕ) (x y : List Entry) → Rises a (entry_moments x) b → Rises b (entry_moments y) c → Rises a (entry_moments (x ++ y)) c
+timed_then a b c x y p q =
+    let P : List ℕ → Type 0 = λ l. Rises a l c in
+    subst P (sym (flat_map-append (λ (e : Entry). call_moments e.call) x y)) (rises_then a b c (entry_moments x) (entry_moments y) p q)
 
 pub clears_then : (old mid new : WireView) (a b c : Lent) (x y : List Entry) → Clears old mid a b x → Clears mid new b c y → Clears old new a c (x ++ y)
 clears_then old mid new a b c x y p q =
@@ -85,19 +96,31 @@ clears_then old mid new a b c x y p q =
       fresh = q.fresh;
       rested = q.rested;
       grows = grows_then a b c x y p.grows q.grows;
+      timed = timed_then old.moment mid.moment new.moment x y p.timed q.timed;
       log = subst P both (told_closes old.log mid.log new.log first (gone_links b.limits b.seen y) p.log q.log);
     }
 
+rises_between : (a b : ℕ) (made : List Entry) (first final : ℕ) → first ≤ a → b ≤ final → Rises a (entry_moments made) b → Rises first (entry_moments made) final
+rises_between a b made first final f g r = rises_from first a final (entry_moments made) f (rises_to a b final (entry_moments made) r g)
+
 -- an idle connection that was due
 pub clear_done : {C : Type 0} (link : C → LinkView) (old new : WireView) (a b : Lent) (now : ℕ) (left : Option C)
-    → old.aged ≡ false → IsRested a → IdleStep link a b (call.Expire now) left → LeftStep link old new left → ClearStep old new a b
-clear_done link old new a b now left fresh r s l =
+    → old.aged ≡ false → old.moment ≡ now → IsRested a → IdleStep link a b (call.Expire now) left → LeftStep link old new left → ClearStep old new a b
+clear_done link old new a b now left fresh read r s l =
     let c = was_cleared link a b now left r s in
     let P : List ℕ → Type 0 = λ n. Told old.log new.log (Acts (closes n)) in
     record {
       made = c.made;
       due = c.expiring;
-      clears = record { later = l.later; fresh = l.aged ∙ fresh; rested = c.rested; grows = c.grows; log = subst P (sym c.gone) l.log };
+      still = l.moment;
+      clears = record {
+        later = l.later;
+        fresh = l.aged ∙ fresh;
+        rested = c.rested;
+        grows = c.grows;
+        timed = rises_between now now c.made old.moment new.moment (omega (arith, read)) (omega (arith, read, l.moment)) c.timed;
+        log = subst P (sym c.gone) l.log;
+      };
     }
 
 -- wants that found an idle connection expired
@@ -108,14 +131,15 @@ pub record Clearing (old new : WireView) (before after : Lent) (host count : ℕ
   pub expired : List Entry
   pub found : AreExpired host expired
   pub counted : length expired ≡ count
+  pub still : new.moment ≡ old.moment
   pub clears : Clears old new before after expired
 
 pub clearing_begins : (wire : WireView) (a : Lent) (host : ℕ) → wire.aged ≡ false → IsRested a → Clearing wire wire a a host 0
-clearing_begins wire a host fresh r = record { expired = []; found = All-nil (IsOverdue host); counted = refl; clears = clears_none wire a fresh r }
+clearing_begins wire a host fresh r = record { expired = []; found = All-nil (IsOverdue host); counted = refl; still = refl; clears = clears_none wire a fresh r }
 
 pub clearing_more : {C : Type 0} (link : C → LinkView) (old mid new : WireView) (a b c : Lent) (host now count : ℕ) (conn : C)
-    → Clearing old mid a b host count → WantExpired link b c host now conn → CloseStep mid new (link conn).number → Clearing old new a c host (count + 1)
-clearing_more link old mid new a b c host now count conn w m s =
+    → old.moment ≡ now → Clearing old mid a b host count → WantExpired link b c host now conn → CloseStep mid new (link conn).number → Clearing old new a c host (count + 1)
+clearing_more link old mid new a b c host now count conn read w m s =
     let o = was_overdue link b c host now conn w.clears.rested m in
     let e = expired_entry host now o.number in
     let P : List ℕ → Type 0 = λ n. Told mid.log new.log (Acts (closes n)) in
@@ -124,25 +148,28 @@ clearing_more link old mid new a b c host now count conn w m s =
       fresh = s.aged ∙ w.clears.fresh;
       rested = o.rested;
       grows = o.grows;
+      timed = (omega (arith, read, w.still), omega (arith, read, w.still, s.moment));
       log = subst P (sym o.gone) (Told-acts mid.log new.log (Closed (link conn).number ∷ []) s.log);
     } in
     record {
       expired = w.expired ++ e ∷ [];
       found = All-push (IsOverdue host) w.expired e w.found (now, o.number, refl);
       counted = length-append w.expired (e ∷ []) ∙ ap (λ n. n + 1) w.counted;
+      still = s.moment ∙ w.still;
       clears = clears_then old mid new a b c w.expired (e ∷ []) w.clears one;
     }
 
 pub wanted_made : (old new : WireView) (a b c : Lent) (host now count : ℕ) (t : Ticket)
-    → Clearing old new a b host count → count < 1000000 → WantMade b c host now t → WantedStep old new a c host (wanted.Ticket t)
-wanted_made old new a b c host now count t w few m =
+    → old.moment ≡ now → Clearing old new a b host count → count < 1000000 → WantMade b c host now t → WantedStep old new a c host (wanted.Ticket t)
+wanted_made old new a b c host now count t read w few m =
     let x = was_wanted b c t host now w.clears.rested m in
+    let P : ℕ → Type 0 = λ n. Grows b c (entry_of 0 (call.Want host n) x.answer ∷ []) in
     record {
       expired = w.expired;
       mid = b;
       found = w.found;
       clears = w.clears;
-      does = ((let e = w.counted in omega arith), record { asked = now; answer = x.answer; grows = x.grows; by = x.by; room = x.room });
+      does = ((let e = w.counted in omega arith), record { answer = x.answer; grows = subst P (sym (w.still ∙ read)) x.grows; by = x.by; room = x.room });
     }
 
 pub wanted_full : (old new : WireView) (a b c : Lent) (host count : ℕ)
@@ -221,7 +248,7 @@ dialed_grows : {C : Type 0} (link : C → LinkView) (old new : WireView) (a b c 
 dialed_grows link old new a b c host backend want (leased.Lease l) answer w e g d =
     let x = d.does in
     let P : Reply → Type 0 = λ r. TakenBy link old new a c host backend want (leased.Lease l) r in
-    subst P (sym e) (x.0, (x.1.0, grows_then a b c [] (made_dialed want l.no l.link x.1.0) g x.1.1), x.2)
+    subst P (sym e) (x.0, (x.1.0, x.1.1, x.1.2, grows_then a b c [] (made_dialed want l.no l.link x.1.0) g x.1.3), x.2)
 dialed_grows link old new a b c host backend want leased.Unreachable answer w e g d =
     let x = d.does in
     let P : Reply → Type 0 = λ r. TakenBy link old new a c host backend want leased.Unreachable r in
@@ -301,7 +328,11 @@ dial_done link old mid met new a b c d host backend t token conn now put l g s w
     record {
       later = later_then old mid new w.later (later_then mid met new n.later left.later);
       fresh = left.aged ∙ n.aged;
-      does = (taken.2, (now, subst R (sym number) (subst Q (sym no) grows)), subst P (sym number) told);
+      does = (
+        taken.2,
+        (now, (let f = w.later.moment in let e = n.later.moment in let h = n.given in omega arith), (let e = n.given in let f = left.moment in omega arith), subst R (sym number) (subst Q (sym no) grows)),
+        subst P (sym number) told,
+      );
     }
 
 pub granted_kept : {C : Type 0} (link : C → LinkView) (a b c d : Lent) (t back : Ticket) (token : DialToken) (number now : ℕ) (put : Put C)

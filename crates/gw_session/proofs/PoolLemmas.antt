@@ -24,6 +24,7 @@ use Rattle.gw_pool.specs.Machine.{Outcome, step, Standing, standing, MayDial, No
 use Rattle.gw_pool.specs.State.{State, has_number, rests}
 use Rattle.gw_pool.specs.Tokens.{change, ticket_of, with_dial, without_dial, without_ticket, leased, without_lease}
 use Rattle.gw_session.specs.Gone.{link_of, left_by, gone_links, number_of}
+use Rattle.gw_session.specs.Moments.{Rises, entry_moments}
 use Rattle.gw_session.specs.Resting.{resting, granted, dialing, lending, Stands, IsRested, IsGranted, IsDialing, IsSpent, IsServed, IsLent, IsLeased, Grows, IsExpiring, WantsBy, lent_to, expired_entry, made_drop, made_back}
 use Rattle.gw_session.proofs.PoolSteps.{Rests, WantOutcome, AsGranted, AsExpired, AsGiven, conn_row, want_outcome, start_step_is, dialed_step_is, failed_step_is, drop_outcome, back_outcome, expire_outcome, granted_stands, resting_stands, lending_stands}
 
@@ -202,23 +203,25 @@ dial_back : (old : Lent) (d : DialToken) (w : ℕ) → d.want ≡ w → old.out 
 dial_back old d w e t = ap (λ n. change n without_dial old.out) e ∙ ap (λ l. change w without_dial l) t ∙ without_token w
 
 -- an idle connection that is due
-pub record Cleared {C : Type 0} (link : C → LinkView) (old new : Lent) (result : Option C) : Type 0 where
+pub record Cleared {C : Type 0} (link : C → LinkView) (old new : Lent) (now : ℕ) (result : Option C) : Type 0 where
   pub made : List Entry
+  pub timed : Rises now (entry_moments made) now
   pub expiring : IsExpiring made
   pub grows : Grows old new made
   pub rested : IsRested new
   pub gone : gone_links old.limits old.seen made ≡ number_of link result
 
 pub was_cleared : {C : Type 0} (link : C → LinkView) (old new : Lent) (now : ℕ) (result : Option C)
-    → IsRested old → pool.IdleStep link old new (call.Expire now) result → Cleared link old new result
+    → IsRested old → pool.IdleStep link old new (call.Expire now) result → Cleared link old new now result
 was_cleared link old new now None v m =
     let done = looked old new (resting v.rows v.want v.conn v.stamp) [] old.out m.others old.waits v.stands m.looks m.leaves in
-    record { made = []; expiring = inl refl; grows = done.grows; rested = still_rested old new v old.out v.stands.tokens done.stands; gone = refl }
+    record { made = []; timed = omega arith; expiring = inl refl; grows = done.grows; rested = still_rested old new v old.out v.stands.tokens done.stands; gone = refl }
 was_cleared link old new now (Some conn) v m =
     let done = called old new (resting v.rows v.want v.conn v.stamp) [] old.out m.others (call.Expire now) m.outcome old.waits v.stands m.calls m.leaves in
     let takes = expire_outcome old.limits v.rows v.want v.conn v.stamp now m.outcome v.idle done.fits in
     record {
       made = entry_of 0 (call.Expire now) m.outcome.reply ∷ [];
+      timed = (omega arith, omega arith);
       expiring = inr (now, takes.row.conn, ap (λ r. entry_of 0 (call.Expire now) r ∷ []) takes.answer);
       grows = done.grows;
       rested = rested_so new m.outcome.state old.out takes.rests v.stands.tokens done.stands;

@@ -9,7 +9,8 @@ use Rattle.gw_session.specs.declared.end.Next.TheVariants.{End}
 use Rattle.gw_session.specs.declared.end.Why.{Why}
 use Rattle.gw_session.specs.declared.waits.Sent.{Sent}
 use Rattle.gw_session.specs.Ending.{said_next}
-use Rattle.gw_session.specs.Replies.{Said, Unsaid, SaidAt, SaidStep, IsText, Rises}
+use Rattle.gw_session.specs.Moments.{Rises}
+use Rattle.gw_session.specs.Replies.{Said, Unsaid, SaidAt, SaidStep, IsText}
 use Rattle.gw_session.specs.Waits.{SentStep, Says}
 use Rattle.gw_session.proofs.WaitLemmas.{later_same, later_then, link_same, sent_waited}
 

@@ -30,12 +30,13 @@ use Rattle.gw_session.specs.Exchange.{Exchanges, Traded, sent_text}
 use Rattle.gw_session.specs.Gathering.{HearsBody, gathered_waits}
 use Rattle.gw_session.specs.Hearing.{HearsRequest, request_waits}
 use Rattle.gw_session.specs.Resting.{IsRested}
-use Rattle.gw_session.specs.Replies.{SaidActs, SaidAnswer, SaidOwn, refusal_code}
+use Rattle.gw_session.specs.Moments.{entry_moments}
+use Rattle.gw_session.specs.Replies.{SaidActs, SaidAnswer, SaidOwn, refusal_code, said_moments}
 use Rattle.gw_session.specs.Routing.{IsOwn, IsRouted}
 use Rattle.gw_session.specs.Turn.{Undecided, Owned, Stopped, Faulty, Passed, Trip, Unheard, Refused, Heard, Deeds, DeedStep, HearsUpload, Invites, IsBody, IsStop, IsUnheard, Turned, TurnStep, continue_text, counted, request_began, stop_next, unheard_next, wants_continue}
 use Rattle.gw_session.specs.Waits.{GoesOn, SentStep, Says, Writes}
 use Rattle.gw_session.proofs.LeaseLemmas.{grown_none}
-use Rattle.gw_session.proofs.SayLemmas.{rises_from}
+use Rattle.gw_session.proofs.SayLemmas.{rises_from, rises_then}
 use Rattle.gw_session.proofs.WaitLemmas.{later_same, later_then, link_same, link_then}
 
 pub goes_then : (a b c : WireView) (f g h : LinkView) → GoesOn a b f g → GoesOn b c g h → GoesOn a c f h
@@ -157,7 +158,7 @@ passed_done old mid traded new a b client at to peer table last head kept ahead 
       grows = x.grows;
       faults = let e = goes.later.dial_faults in let f = x.faults in let g = s.goes.later.dial_faults in omega arith;
       waited = let e = goes.later.ticks in let f = x.waited in let g = s.waited in omega arith;
-      timed = rises_from old.moment traded.moment new.moment _ (let e = goes.later.moment in let f = x.later.moment in omega arith) s.timed;
+      timed = rises_from old.moment mid.moment new.moment _ goes.later.moment (rises_then mid.moment traded.moment new.moment (entry_moments x.course.made) (said_moments s.said) x.timed s.timed);
       log = Told-map old.log new.log (Then X (Then (Y old.groups) Z)) (Deeds k peer old.groups table last head kept ahead (Passed number upload trip s.said))
           (λ l p. (routed, t.leads, is, s.right, p))
           (Told-then old.log mid.log new.log X (Then (Y old.groups) Z) told (Told-then mid.log traded.log new.log (Y old.groups) Z exchange said));

@@ -1,5 +1,5 @@
 -- The exchange for one request: what the pool and the backend see of it.
-use Rattle.std.specs.Prelude.{ℕ, ◌≡◌, ◌<◌, Bool, true, false, List, [], ◌∷◌, ◌++◌}
+use Rattle.std.specs.Prelude.{ℕ, ◌≡◌, ◌<◌, Bool, true, false, List, [], ◌++◌}
 use Rattle.gw_wire.specs.declared.values.Act.{Act}
 use Rattle.gw_wire.specs.declared.values.Addr.{Addr}
 use Rattle.gw_wire.specs.Causes.{RoseBy}
@@ -17,6 +17,7 @@ use Rattle.gw_session.specs.declared.exchange.Answer.TheVariants as answer
 use Rattle.gw_session.specs.Attempt.{Attempts, attempt_waits, is_reusable}
 use Rattle.gw_session.specs.Gone.{gone_links}
 use Rattle.gw_session.specs.Leased.{DialFails, HasLink, IsClearing, IsEnding, IsFailing, IsLeasing, Reaches, closes}
+use Rattle.gw_session.specs.Moments.{Rises, entry_moments}
 use Rattle.gw_session.specs.Resting.{IsRested, Grows}
 use Rattle.gw_session.specs.Routing.{Target, LeadsTo}
 
@@ -116,6 +117,7 @@ pub record Exchanged (old new : WireView) (before after : Lent) (host : ℕ) (ba
   pub course : Course
   pub makes : Makes before.limits before.seen host result course
   pub grows : Grows before after course.made
+  pub timed : Rises old.moment (entry_moments course.made) new.moment
   pub faults : RoseBy (failed_dials result) old.dial_faults new.dial_faults
   pub waited : RoseBy (answer_waits result) old.ticks new.ticks
   pub log : Told old.log new.log (Exchanges (old.groups backend) host backend text method course result)

@@ -1,6 +1,6 @@
 -- How an exchange comes to a connection: idle connections that are expired are closed on the way; an idle one serves the
 -- want, or one is dialed for it. And how the connection goes back.
-use Rattle.std.specs.Prelude.{ℕ, ◌≡◌, ◌<◌, Bool, true, false, List, [], ◌∷◌, ◌++◌, All, map, length, find, Option, Some}
+use Rattle.std.specs.Prelude.{ℕ, ◌≡◌, ◌<◌, ◌≤◌, Bool, true, false, List, [], ◌∷◌, ◌++◌, All, map, length, find, Option, Some}
 use Rattle.gw_wire.specs.declared.values.Act.{Act}
 use Rattle.gw_wire.specs.declared.values.Act.TheVariants.{Closed, Dialed, DialFailed}
 use Rattle.gw_wire.specs.declared.values.Addr.{Addr}
@@ -23,6 +23,7 @@ use Rattle.gw_session.specs.declared.lease.Leased.TheVariants as leased
 use Rattle.gw_session.specs.declared.lease.Wanted.{Wanted}
 use Rattle.gw_session.specs.declared.lease.Wanted.TheVariants as wanted
 use Rattle.gw_session.specs.Gone.{gone_links, number_of}
+use Rattle.gw_session.specs.Moments.{Rises, entry_moments}
 use Rattle.gw_session.specs.Resting.{IsRested, IsLeased, IsExpiring, Grows, WantsBy, expired_entry, made_back, made_dialed, made_drop, made_failed}
 
 -- these links are closed
@@ -84,6 +85,7 @@ HasLink limits history conn link = (row : ConnRow) × (find (has_number conn) (a
 pub record LeftStep {C : Type 0} (link : C → LinkView) (old new : WireView) (left : Option C) : Type 0 where
   pub later : Later old new
   pub aged : new.aged ≡ old.aged
+  pub moment : new.moment ≡ old.moment
   pub log : Told old.log new.log (Acts (closes (number_of link left)))
 
 -- entries were made by which idle connections left the pool, and those were closed
@@ -92,39 +94,40 @@ pub record Clears (old new : WireView) (before after : Lent) (made : List Entry)
   pub fresh : new.aged ≡ false
   pub rested : IsRested after
   pub grows : Grows before after made
+  pub timed : Rises old.moment (entry_moments made) new.moment
   pub log : Told old.log new.log (Acts (closes (gone_links before.limits before.seen made)))
 
 pub record ClearStep (old new : WireView) (before after : Lent) : Type 0 where
   pub made : List Entry
   pub due : IsExpiring made
+  pub still : new.moment ≡ old.moment
   pub clears : Clears old new before after made
 
 -- a want was made: it may dial, or an idle connection serves it
-pub record Asks (before after : Lent) (host want : ℕ) : Type 0 where
-  pub asked : ℕ
+pub record Asks (before after : Lent) (host asked want : ℕ) : Type 0 where
   pub answer : Reply
   pub grows : Grows before after (entry_of 0 (call.Want host asked) answer ∷ [])
   pub by : WantsBy after want answer
   pub room : is_full before.limits before.seen ≡ false
 
 -- wants until one was made
-abbrev pub WantedBy : Lent → Lent → ℕ → ℕ → Wanted → Type 0
-WantedBy mid after host count (wanted.Ticket t) = (count < 1000000) × Asks mid after host t.want
-WantedBy mid after host count wanted.Full =
+abbrev pub WantedBy : Lent → Lent → ℕ → ℕ → ℕ → Wanted → Type 0
+WantedBy mid after host asked count (wanted.Ticket t) = (count < 1000000) × Asks mid after host asked t.want
+WantedBy mid after host asked count wanted.Full =
     (count < 1000000) × (is_full mid.limits mid.seen ≡ true) × IsRested after × Grows mid after []
-WantedBy mid after host count wanted.Late = (count ≡ 1000000) × IsRested after × Grows mid after []
+WantedBy mid after host asked count wanted.Late = (count ≡ 1000000) × IsRested after × Grows mid after []
 
 pub record WantedStep (old new : WireView) (before after : Lent) (host : ℕ) (result : Wanted) : Type 0 where
   pub expired : List Entry
   pub mid : Lent
   pub found : AreExpired host expired
   pub clears : Clears old new before mid expired
-  pub does : WantedBy mid after host (length expired) result
+  pub does : WantedBy mid after host new.moment (length expired) result
 
 -- the dial of a want that was granted a place
 abbrev pub DialedBy : {C : Type 0} → (C → LinkView) → WireView → WireView → Lent → Lent → ℕ → Addr → ℕ → Leased C → Type 0
 DialedBy link old new before after host backend want (leased.Lease l) =
-    IsLeased link after l × ((at : ℕ) × Grows before after (made_dialed want l.no l.link at))
+    IsLeased link after l × ((at : ℕ) × (old.moment ≤ at) × (at ≤ new.moment) × Grows before after (made_dialed want l.no l.link at))
     × Told old.log new.log (DialsTo (old.groups backend) host backend l.link)
 DialedBy link old new before after host backend want leased.Unreachable =
     IsRested after × Grows before after (made_failed want) × Rose old.dial_faults new.dial_faults
@@ -181,6 +184,7 @@ pub record LeasedStep {C : Type 0} (link : C → LinkView) (old new : WireView) 
   pub count : ℕ
   pub clears : IsClearing host count clearing
   pub grows : Grows before after (clearing ++ leasing)
+  pub timed : Rises old.moment (entry_moments (clearing ++ leasing)) new.moment
   pub does : LeasedBy link old new before after host backend clearing leasing count result
 
 -- a lease ended, and the connection that left the pool, if one did, was closed
@@ -191,4 +195,5 @@ pub record EndStep (old new : WireView) (before after : Lent) (conn : ℕ) (reus
   pub ending : List Entry
   pub ends : IsEnding reusable conn ending
   pub grows : Grows before after ending
+  pub timed : Rises old.moment (entry_moments ending) new.moment
   pub log : Told old.log new.log (Acts (closes (gone_links before.limits before.seen ending)))

@@ -6,6 +6,7 @@ pub mod Gone
 pub mod Hearing
 pub mod Inbox
 pub mod Leased
+pub mod Moments
 pub mod Replies
 pub mod Resting
 pub mod Routing

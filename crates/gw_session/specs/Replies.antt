@@ -1,5 +1,5 @@
 -- Replies to the client: their texts, and how far they were written.
-use Rattle.std.specs.Prelude.{ℕ, ◌≡◌, ◌≤◌, Bool, List, [], ◌∷◌, Option, is_some}
+use Rattle.std.specs.Prelude.{ℕ, ◌≡◌, Bool, List, [], ◌∷◌, Option, is_some}
 use Rattle.gw_wire.specs.declared.values.Act.{Act}
 use Rattle.gw_wire.specs.Causes.{RoseBy}
 use Rattle.gw_wire.specs.Link.{LinkView}
@@ -22,6 +22,7 @@ use Rattle.gw_session.specs.declared.exchange.Answer.{Answer}
 use Rattle.gw_session.specs.declared.exchange.Answer.TheVariants as answer
 use Rattle.gw_session.specs.declared.waits.Sent.{Sent}
 use Rattle.gw_session.specs.Ending.{said_next}
+use Rattle.gw_session.specs.Moments.{Rises}
 use Rattle.gw_session.specs.Waits.{GoesOn, Says, sent_waits}
 
 -- the code that answers a head which fails this check (RFC 9110, section 15; RFC 6585, section 5)
@@ -78,11 +79,6 @@ said_waits (SaidAt moment text sent) = sent_waits sent
 abbrev pub said_moments : Said → List ℕ
 said_moments Unsaid = []
 said_moments (SaidAt moment text sent) = moment ∷ []
-
--- moments that never fall, between two others
-abbrev pub Rises : ℕ → List ℕ → ℕ → Type 0
-Rises first [] final = first ≤ final
-Rises first (moment ∷ moments) final = (first ≤ moment) × Rises moment moments final
 
 -- what follows it, where the link is to close behind it for this reason, or to stay
 abbrev pub next_behind : Said → Option Why → Next

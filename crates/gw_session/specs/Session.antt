@@ -17,7 +17,7 @@ use Rattle.gw_session.specs.declared.end.Served.{Served}
 use Rattle.gw_session.specs.declared.end.Next.{Next}
 use Rattle.gw_session.specs.declared.end.Next.TheVariants.{Again, End}
 use Rattle.gw_session.specs.Resting.{IsRested, Grows}
-use Rattle.gw_session.specs.Replies.{Rises}
+use Rattle.gw_session.specs.Moments.{Rises}
 use Rattle.gw_session.specs.Turn.{Turn, Turned, FitsAt, began_in, counted, failed_in, made_in, moments_in, turn_next, waits_in}
 use Rattle.gw_session.specs.Waits.{GoesOn}
 
@@ -62,7 +62,7 @@ failed_by turns = sum_by failed_in turns
 abbrev pub waits_by : List Turn → ℕ
 waits_by turns = sum_by waits_in turns
 
--- the moments of their replies
+-- the moments of the caller's entries and of the replies
 abbrev pub moments_by : List Turn → List ℕ
 moments_by turns = flat_map moments_in turns
 

@@ -1,5 +1,5 @@
 -- One turn of a session: a request is heard and answered. The parts of a turn follow one another on the worker's log.
-use Rattle.std.specs.Prelude.{ℕ, ◌≡◌, ◌+◌, ◌-◌, ◌^◌, min, ◌⊎◌, Bool, true, false, not, ◌&&◌, List, [], codes, is_some, Some}
+use Rattle.std.specs.Prelude.{ℕ, ◌≡◌, ◌+◌, ◌-◌, ◌^◌, min, ◌⊎◌, Bool, true, false, not, ◌&&◌, List, [], ◌++◌, codes, is_some, Some}
 use Rattle.gw_wire.specs.declared.values.Act.{Act}
 use Rattle.gw_wire.specs.declared.values.Addr.{Addr}
 use Rattle.gw_wire.specs.Causes.{RoseBy}
@@ -32,7 +32,8 @@ use Rattle.gw_session.specs.Exchange.{Course, Exchanges, Makes, failed_dials, an
 use Rattle.gw_session.specs.Gathering.{HearsBody, gathered_waits}
 use Rattle.gw_session.specs.Hearing.{HearsRequest, request_waits}
 use Rattle.gw_session.specs.Resting.{IsRested, Grows}
-use Rattle.gw_session.specs.Replies.{AnswerText, IsText, Rises, Said, SaidActs, next_behind, refusal_code, said_moments, said_waits}
+use Rattle.gw_session.specs.Moments.{Rises, entry_moments}
+use Rattle.gw_session.specs.Replies.{AnswerText, IsText, Said, SaidActs, next_behind, refusal_code, said_moments, said_waits}
 use Rattle.gw_session.specs.Routing.{IsOwn, IsRouted, LeadsTo, Target}
 use Rattle.gw_session.specs.Waits.{GoesOn, Says, Writes}
 
@@ -163,13 +164,13 @@ deed_waits (Stopped number upload) = gathered_waits upload
 deed_waits (Faulty number error said) = said_waits said
 deed_waits (Passed number upload trip said) = answer_waits trip.answer + said_waits said
 
--- the moment of its reply
+-- the moments of the caller's entries, and of its reply
 abbrev pub deed_moments : Deed → List ℕ
 deed_moments Undecided = []
 deed_moments (Owned own said) = said_moments said
 deed_moments (Stopped number upload) = []
 deed_moments (Faulty number error said) = said_moments said
-deed_moments (Passed number upload trip said) = said_moments said
+deed_moments (Passed number upload trip said) = entry_moments trip.course.made ++ said_moments said
 
 -- a request whose head is whole was dealt with
 pub record DeedStep

@@ -58,6 +58,7 @@ pub fn lease<W: Wire, L: Leases<W::Conn>>(
 /// Takes the least recently idle connection out of the pool where it is expired, and closes it.
 fn close_expired<W: Wire, L: Leases<W::Conn>>(wire: &mut W, leases: &mut L, now: u64)
     requires fresh { (W.wire wire.old).aged ≡ false }
+    requires read { (W.wire wire.old).moment ≡ now }
     requires rested { IsRested (L.lent leases.old) }
     ensures { ClearStep (W.wire wire.old) (W.wire wire.new) (L.lent leases.old) (L.lent leases.new) }
 {
@@ -77,6 +78,7 @@ fn close_left<W: Wire>(wire: &mut W, left: Option<W::Conn>)
 /// Wants a connection to a host, and closes each idle one that a want finds expired.
 fn want<W: Wire, L: Leases<W::Conn>>(wire: &mut W, leases: &mut L, host: u32, now: u64) -> Wanted
     requires fresh { (W.wire wire.old).aged ≡ false }
+    requires read { (W.wire wire.old).moment ≡ now }
     requires rested { IsRested (L.lent leases.old) }
     requires within { host < (L.lent leases.old).limits.hosts }
     ensures { WantedStep (W.wire wire.old) (W.wire wire.new) (L.lent leases.old) (L.lent leases.new) host result }

@@ -14,7 +14,7 @@ use Rattle.gw_pool.specs.Lent.{Lent}
 use Rattle.gw_routes.specs.declared.table.Table.{Table}
 use Rattle.gw_session.specs.declared.end.Ended.{Ended as SessionEnded}
 use Rattle.gw_session.specs.Resting.{IsRested, Grows}
-use Rattle.gw_session.specs.Replies.{Rises}
+use Rattle.gw_session.specs.Moments.{Rises}
 use Rattle.gw_session.specs.Session as Turns
 use Rattle.gw_session.specs.Session.{Session}
 use Rattle.gw_session.specs.Turn.{Turn, counted}
@@ -53,7 +53,7 @@ failed_by visits = sum_by (λ v. Turns.failed_by v.turns) visits
 abbrev pub waits_by : List Visit → ℕ
 waits_by visits = sum_by (λ v. Turns.waits_by v.turns) visits
 
--- the moments of their replies
+-- the moments of the caller's entries and of the replies
 abbrev pub moments_by : List Visit → List ℕ
 moments_by visits = flat_map (λ v. Turns.moments_by v.turns) visits
 
