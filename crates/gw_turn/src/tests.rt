@@ -1,17 +1,27 @@
-//! Passes used in turn on one thread, and by four threads.
+//! Passes used in turn on one thread, and by four threads, whose journal a plain machine replays.
 
-ghost use Rattle.std.specs.Prelude.{◌≡◌, ◌<◌, ◌∷◌, [], true, length};
-ghost use Rattle.gw_pool.specs.Lent.{LeaseOf};
-ghost use Rattle.gw_pool.specs.Tokens.{ticket_of, leased};
+mod machine;
+mod replay_tests;
+mod units;
+
+ghost use Rattle.std.specs.Prelude.{◌≡◌, ◌<◌, ◌∷◌, []};
+ghost use Rattle.gw_pool.specs.Tokens.{ticket_of};
 
 use crate::desk::Desk;
 use crate::pass::Pass;
 use crate::pool::Pool;
-use gw_pool::{Ask, Closed, Entry, Lease, Leases, Limits, Put, Reply, Start, Ticket, Want};
+use crate::tests::machine::{Replayed, replay};
+use crate::tests::units::{Counts, tally_of, work};
+use gw_pool::{Ask, Closed, Entry, Lease, Leases, Limits, Offer, Reply, Start, Ticket, Want};
+use std::alloc::{AllocError, Global};
 use std::process::Abort;
 use std::sync::Wait;
+use std::sync::atomic::AtomicU64;
 use std::test::Fail;
 use std::thread::{Threads, join};
+
+/// How many units each of the four threads makes.
+const UNITS: u64 = 1_500;
 
 fn limits(passes: u32, journal: u32) -> Limits
     ensures hosts { result.hosts ≡ 1 }
@@ -161,112 +171,150 @@ fn two_passes_in_turn(rt: HostRuntime) -> Result<(), Fail> {
     }
 }
 
-/// Gives a want up.
-fn given_up<R: Wait>(rt: &R, pool: &Pool<u64>, pass: &mut Pass, t: Ticket)
-    requires of { pass.old.pool ≡ pool.now }
-    requires out { pass.old.lent.out ≡ ticket_of t.want ∷ [] }
-    ensures out { pass.new.lent.out ≡ [] }
-    ensures stays { (pass.new.pool ≡ pass.old.pool) × (pass.new.joined ≡ pass.old.joined) × (pass.new.lent.limits ≡ pass.old.lent.limits) × (pass.new.lent.number ≡ pass.old.lent.number) }
+/// Limits under which four threads often wait for one another.
+fn narrow() -> Limits
+    ensures hosts { result.hosts ≡ 2 }
+    ensures passes { result.passes ≡ 4 }
+    ensures per_pass { result.per_pass ≡ 1 }
 {
-    let mut desk = Desk { rt, pool, pass };
-    let Put { close: _ } = desk.cancel(t, 0);
-}
-
-/// Dials for a want, and drops the connection that serves it.
-fn dialed_and_dropped<R: Wait>(rt: &R, pool: &Pool<u64>, pass: &mut Pass, t: Ticket, link: u64)
-    requires of { pass.old.pool ≡ pool.now }
-    requires out { pass.old.lent.out ≡ ticket_of t.want ∷ [] }
-    ensures out { pass.new.lent.out ≡ [] }
-    ensures stays { (pass.new.pool ≡ pass.old.pool) × (pass.new.joined ≡ pass.old.joined) × (pass.new.lent.limits ≡ pass.old.lent.limits) × (pass.new.lent.number ≡ pass.old.lent.number) }
-{
-    let mut desk = Desk { rt, pool, pass };
-    match desk.start(&t) {
-        Start::Go(d) => {
-            let Put { close: _ } = desk.dialed(d, link, 0);
-        }
-        Start::NotGranted => {}
+    Limits {
+        idle_total: 1,
+        idle_per_host: 1,
+        conns_per_host: 2,
+        idle_ms: 42,
+        journal: 60_000,
+        passes: 4,
+        per_pass: 1,
+        hosts: 2,
     }
-    match desk.ask(t) {
-        Ask::Taken(l) => {
-            desk.drop_conn(l);
-        }
-        Ask::Failed => {}
-        Ask::Granted(t) => {
-            let Put { close: _ } = desk.cancel(t, 0);
-        }
-        Ask::NotYet(t) => {
-            let Put { close: _ } = desk.cancel(t, 0);
-        }
-    }
-}
-
-/// Makes a want and ends it: by a dial where it may dial, and by giving it up where it waits. A connection that serves it
-/// is given back.
-fn one_unit<R: Wait + Abort>(rt: &R, pool: &Pool<u64>, pass: &mut Pass, link: u64)
-    requires of { pass.old.pool ≡ pool.now }
-    requires host { 0 < pass.old.lent.limits.hosts }
-    requires few { 0 < pass.old.lent.limits.per_pass }
-    requires free { pass.old.lent.out ≡ [] }
-    ensures out { pass.new.lent.out ≡ [] }
-    ensures stays { (pass.new.pool ≡ pass.old.pool) × (pass.new.joined ≡ pass.old.joined) × (pass.new.lent.limits ≡ pass.old.lent.limits) × (pass.new.lent.number ≡ pass.old.lent.number) }
-{
-    let t = made(rt, pool, pass);
-    let mut desk = Desk { rt, pool, pass };
-    match desk.ask(t) {
-        Ask::Taken(l) => {
-            let Put { close: _ } = desk.give_back(l, 0);
-        }
-        Ask::Failed => {}
-        Ask::NotYet(t) => {
-            let Put { close: _ } = desk.cancel(t, 0);
-        }
-        Ask::Granted(t) => dialed_and_dropped(rt, pool, desk.pass, t, link),
-    }
-}
-
-/// Makes and ends a thousand units.
-fn work<R: Wait + Abort>(rt: &R, pool: &Pool<u64>, mut pass: Pass) -> Pass
-    requires of { pass.pool ≡ pool.now }
-    requires host { 0 < pass.lent.limits.hosts }
-    requires few { 0 < pass.lent.limits.per_pass }
-    requires free { pass.lent.out ≡ [] }
-    ensures out { result.lent.out ≡ [] }
-    ensures stays { (result.pool ≡ pass.pool) × (result.joined ≡ pass.joined) × (result.lent.limits ≡ pass.lent.limits) }
-{
-    for link in 0..1000 {
-        one_unit(rt, pool, &mut pass, link);
-    }
-    pass
 }
 
 /// Two threads of work.
 fn work_both<R: Threads + Wait + Abort + Sync>(
     rt: &R,
     pool: &Pool<u64>,
+    meeting: &AtomicU64,
     one: Pass,
     two: Pass,
-) -> (Pass, Pass)
-    requires one { (one.pool ≡ pool.now) × (0 < one.lent.limits.hosts) × (0 < one.lent.limits.per_pass) × (one.lent.out ≡ []) }
-    requires two { (two.pool ≡ pool.now) × (0 < two.lent.limits.hosts) × (0 < two.lent.limits.per_pass) × (two.lent.out ≡ []) }
-    ensures one { (result.0.lent.out ≡ []) × (result.0.pool ≡ one.pool) × (result.0.joined ≡ one.joined) × (result.0.lent.limits ≡ one.lent.limits) }
-    ensures two { (result.1.lent.out ≡ []) × (result.1.pool ≡ two.pool) × (result.1.joined ≡ two.joined) × (result.1.lent.limits ≡ two.lent.limits) }
+    thread: u64,
+) -> ((Pass, Counts), (Pass, Counts))
+    requires one { (one.pool ≡ pool.now) × (one.lent.limits.hosts ≡ 2) × (0 < one.lent.limits.per_pass) × (one.lent.out ≡ []) }
+    requires two { (two.pool ≡ pool.now) × (two.lent.limits.hosts ≡ 2) × (0 < two.lent.limits.per_pass) × (two.lent.out ≡ []) }
+    ensures one { (result.0.0.lent.out ≡ []) × (result.0.0.pool ≡ one.pool) × (result.0.0.joined ≡ one.joined) × (result.0.0.lent.limits ≡ one.lent.limits) }
+    ensures two { (result.1.0.lent.out ≡ []) × (result.1.0.pool ≡ two.pool) × (result.1.0.joined ≡ two.joined) × (result.1.0.lent.limits ≡ two.lent.limits) }
 {
-    join(rt, || work(rt, pool, one), || work(rt, pool, two))
+    join(
+        rt,
+        || work(rt, pool, one, meeting, thread, UNITS),
+        || work(rt, pool, two, meeting, thread.wrapping_add(1), UNITS),
+    )
 }
 
-/// How many wants an entry made, if its want has the number that comes next.
-fn next_want(entry: &Entry, next: u64) -> Option<u64> {
-    match entry.reply {
-        Reply::Given { want, .. } | Reply::Granted { want } | Reply::Waiting { want } => {
-            if want == next { Some(1) } else { None }
+/// How many entries have replies of which some come in every schedule.
+#[derive(Clone, Copy)]
+struct Seen {
+    made: u64,
+    waiting: u64,
+    handed_over: u64,
+    ended: u64,
+    late: u64,
+}
+
+impl Seen {
+    fn add(&mut self, reply: &Reply) {
+        match reply {
+            Reply::Given { .. } | Reply::Granted { .. } => self.made = self.made.saturating_add(1),
+            Reply::Waiting { .. } => {
+                self.made = self.made.saturating_add(1);
+                self.waiting = self.waiting.saturating_add(1);
+            }
+            Reply::Put {
+                offer: Offer::ToWant { .. },
+            } => self.handed_over = self.handed_over.saturating_add(1),
+            Reply::Ended { .. } => self.ended = self.ended.saturating_add(1),
+            Reply::Late { .. } => self.late = self.late.saturating_add(1),
+            _ => {}
         }
-        _ => Some(0),
     }
+}
+
+fn seen_in(journal: &[Entry]) -> Seen {
+    let mut seen = Seen {
+        made: 0,
+        waiting: 0,
+        handed_over: 0,
+        ended: 0,
+        late: 0,
+    };
+    for entry in journal.iter() {
+        seen.add(&entry.reply);
+    }
+    seen
+}
+
+/// Two threads begin by a dial that fails, by one that fails after its want was cancelled, and by a connection that the
+/// two others wait for.
+fn shows<R: Abort>(rt: &R, seen: Seen) {
+    assert_eq!(rt; seen.made, 4 * UNITS + 4, "units");
+    assert!(rt; seen.waiting >= 2, "wants that wait");
+    assert!(rt;
+        seen.handed_over >= 2,
+        "connections that go from one thread to another"
+    );
+    assert!(rt; seen.ended >= 2, "dials that fail");
+    assert!(rt;
+        seen.late >= 2,
+        "dials that fail after their wants were cancelled"
+    );
+}
+
+/// Replays a journal, and compares what is idle at its end.
+fn replays<R: Abort>(
+    rt: &R,
+    alloc: Global,
+    limits: Limits,
+    journal: &[Entry],
+    idle: &[u64],
+) -> Result<(), AllocError> {
+    match replay(alloc, limits, journal)? {
+        Replayed::Whole(mut machine) => {
+            assert!(rt; machine.is_quiet(), "a unit is left");
+            let links = machine.take_idle()?;
+            assert_eq!(rt; links.as_slice(), idle);
+            Ok(())
+        }
+        Replayed::Unfit(at) => panic!(rt; "the call of entry {at} doesn't fit"),
+        Replayed::Otherwise(at, reply) => {
+            panic!(rt; "the machine answers the call of entry {at} by {reply:?}")
+        }
+    }
+}
+
+/// Compares what the threads counted with the journal.
+fn counted<R: Abort>(rt: &R, journal: &[Entry], counts: &[Counts], idle: usize) {
+    let mut entries = 0u64;
+    let mut dialed = 0u64;
+    let mut closed = idle as u64;
+    let mut caller = 0u32;
+    for count in counts.iter() {
+        let tally = tally_of(journal, caller);
+        assert_eq!(rt; tally, count.calls, "the calls of caller {caller}");
+        caller = caller.saturating_add(1);
+        entries = entries.saturating_add(tally.total());
+        dialed = dialed.saturating_add(tally.dialed);
+        closed = closed.saturating_add(count.closed);
+    }
+    assert_eq!(rt; entries, journal.len() as u64, "entries of other callers");
+    assert_eq!(rt;
+        dialed,
+        closed,
+        "connections that came to be, and that were closed or are idle"
+    );
 }
 
 #[test]
 fn four_threads(rt: HostRuntime) -> Result<(), Fail> {
-    let (pool, mut passes) = Pool::<u64>::open(rt.alloc(), limits(4, 40_000))?;
+    let (pool, mut passes) = Pool::<u64>::open(rt.alloc(), narrow())?;
     let (Some(d), Some(c), Some(b), Some(a)) = (
         passes.pop(),
         passes.pop(),
@@ -275,24 +323,31 @@ fn four_threads(rt: HostRuntime) -> Result<(), Fail> {
     ) else {
         unreachable!()
     };
-    let ((mut a, b), (c, d)) = join(
+    let meeting = AtomicU64::new(0);
+    let (((mut a, first), (b, second)), ((c, third), (d, fourth))) = join(
         &rt,
-        || work_both(&rt, &pool, a, b),
-        || work_both(&rt, &pool, c, d),
+        || work_both(&rt, &pool, &meeting, a, b, 0),
+        || work_both(&rt, &pool, &meeting, c, d, 2),
     );
     pool.join_pass(&mut a, b);
     pool.join_pass(&mut a, c);
     pool.join_pass(&mut a, d);
     match pool.close(a) {
-        Ok(Closed { journal, idle: _ }) => {
-            let mut wants = 0;
-            for entry in journal.iter() {
-                match next_want(entry, wants) {
-                    Some(more) => wants = wants.saturating_add(more),
-                    None => panic!(rt; "a want has another number"),
-                }
-            }
-            assert_eq!(rt; wants, 4000);
+        Ok(Closed { journal, idle }) => {
+            replays(
+                &rt,
+                rt.alloc(),
+                narrow(),
+                journal.as_slice(),
+                idle.as_slice(),
+            )?;
+            counted(
+                &rt,
+                journal.as_slice(),
+                &[first, second, third, fourth],
+                idle.len(),
+            );
+            shows(&rt, seen_in(journal.as_slice()));
             Ok(())
         }
         Err(_) => Err("no memory".into()),
