@@ -41,6 +41,7 @@ pub(crate) struct PoolLimits {
     pub(crate) idle_ms: u32,
 }
 
+/// The limits that a file names, each in its range, and the defaults of those that it doesn't name.
 #[tactic(auto, unfolding(crate::specs::Files::pool_said))]
 pub(crate) fn read_pool(file: &Value) -> Result<PoolLimits, RouteError>
     ensures { Gives pool_text result (pool_said (view file.now)) }
