@@ -1,3 +1,7 @@
-pub mod ClockLemmas
-pub mod ScriptLemmas
+mod ClockLemmas
+pub mod Facts
+mod HonestLemmas
+pub mod LaterLemmas
+mod ScriptLemmas
+pub mod ShuffleLemmas
 pub mod StretchLemmas

@@ -1,5 +1,5 @@
 -- How stretches of a log are put together, so that no proof above opens the log again.
-use Rattle.std.proofs.Common.{List, [], ◌++◌, Option, Some, None, refl, ap, sym, ◌∙◌, append_assoc, append-nil}
+use Rattle.std.proofs.Common.{List, [], ◌++◌, Option, Some, None, refl, ap, sym, subst, ◌∙◌, append_assoc, append-nil}
 use Rattle.gw_wire.specs.declared.values.Act.{Act}
 use Rattle.gw_wire.specs.Acts.{Logs}
 use Rattle.gw_wire.specs.Stretch.{Told, Acts, Then}
@@ -19,31 +19,18 @@ pub Logs-quiet : {A : Type 0} (old mid new : Option (List A)) (acts : List A) �
 Logs-quiet old mid new acts a b = Logs-then old mid new [] acts a b
 
 pub Told-map : (old new : Option (List Act)) (P Q : List Act → Type 0) → ((l : List Act) → P l → Q l) → Told old new P → Told old new Q
-Told-map old None P Q f t = tt
-Told-map None (Some new) P Q f t = absurd t
-Told-map (Some old) (Some new) P Q f t = (t.0, t.1, f t.0 t.2)
+Told-map old new P Q f t = (t.0, t.1, f t.0 t.2)
 
 pub Told-acts : (old new : Option (List Act)) (acts : List Act) → Logs old new acts → Told old new (Acts acts)
-Told-acts old None acts l = tt
-Told-acts None (Some new) acts l = absurd l
-Told-acts (Some old) (Some new) acts l = (acts, l, refl)
+Told-acts old new acts l = (acts, l, refl)
 
 pub Told-then : (old mid new : Option (List Act)) (P Q : List Act → Type 0) → Told old mid P → Told mid new Q → Told old new (Then P Q)
-Told-then old mid None P Q a b = tt
-Told-then old None (Some new) P Q a b = absurd b
-Told-then None (Some mid) (Some new) P Q a b = absurd a
-Told-then (Some old) (Some mid) (Some new) P Q a b =
-    (a.0 ++ b.0, b.1 ∙ ap (λ m. m ++ b.0) a.1 ∙ append_assoc old a.0 b.0, (a.0, b.0, refl, a.2, b.2))
+Told-then old mid new P Q a b = (a.0 ++ b.0, Logs-then old mid new a.0 b.0 a.1 b.1, (a.0, b.0, refl, a.2, b.2))
 
 -- before or after a call that logs nothing
 pub Told-after_quiet : (old mid new : Option (List Act)) (P : List Act → Type 0) → Logs old mid [] → Told mid new P → Told old new P
-Told-after_quiet old mid None P a b = tt
-Told-after_quiet old None (Some new) P a b = absurd b
-Told-after_quiet None (Some mid) (Some new) P a b = absurd a
-Told-after_quiet (Some old) (Some mid) (Some new) P a b = (b.0, b.1 ∙ ap (λ m. m ++ b.0) (a ∙ append-nil old), b.2)
+Told-after_quiet old mid new P a b = (b.0, Logs-quiet old mid new b.0 a b.1, b.2)
 
 pub Told-before_quiet : (old mid new : Option (List Act)) (P : List Act → Type 0) → Told old mid P → Logs mid new [] → Told old new P
-Told-before_quiet old mid None P a b = tt
-Told-before_quiet old None (Some new) P a b = absurd b
-Told-before_quiet None (Some mid) (Some new) P a b = absurd a
-Told-before_quiet (Some old) (Some mid) (Some new) P a b = (a.0, b ∙ append-nil mid ∙ a.1, a.2)
+Told-before_quiet old mid new P a b =
+    (a.0, subst (Logs old new) (append-nil a.0) (Logs-then old mid new a.0 [] a.1 b), a.2)

@@ -1,4 +1,4 @@
-use Rattle.std.specs.Prelude.{◌≡◌, true, List, [], ◌∷◌}
+use Rattle.std.specs.Prelude.{◌≤◌, ◌≡◌, true, List, [], ◌∷◌}
 use Rattle.gw_wire.specs.declared.values.Act.{Act}
 use Rattle.gw_wire.specs.declared.values.Act.TheVariants.{Accepted, AcceptFailed}
 use Rattle.gw_wire.specs.declared.values.Act.TheVariants.{Ended as ListenerEnded}
@@ -7,11 +7,12 @@ use Rattle.gw_wire.specs.declared.traits.Accept.TheVariants.{Conn, Ended, Tick, 
 use Rattle.gw_wire.specs.Causes.{Rose}
 use Rattle.gw_wire.specs.Acts.{Logs}
 use Rattle.gw_wire.specs.Link.{LinkView}
+use Rattle.gw_wire.specs.Visible.{AreVisible}
 use Rattle.gw_wire.specs.Wire.{WireView, Later}
 
--- when each answer of an accept may come
+-- when each answer of an accept may come; a peer's text is visible ASCII
 abbrev pub AcceptCause : {C : Type 0} → WireView → WireView → Accept C → Type 0
-AcceptCause old new (Conn client peer) = Unit {0}
+AcceptCause old new (Conn client peer) = AreVisible peer
 AcceptCause old new Ended = new.ended ≡ true
 AcceptCause old new Tick = Rose old.ticks new.ticks
 AcceptCause old new Failed = Rose old.accept_faults new.accept_faults
@@ -30,5 +31,6 @@ pub record AcceptStep {C : Type 0} (link : C → LinkView) (old new : WireView) 
   pub over : old.ended ≡ true → result ≡ Ended
   pub log : Logs old.log new.log (accept_acts link result)
   pub moment : new.moment ≡ old.moment
+  pub begun : new.first ≤ new.moment
   pub asked : new.asked ≡ old.asked
   pub aged : new.aged ≡ old.aged

@@ -1,4 +1,4 @@
-use Rattle.std.specs.Prelude.{ℕ, ◌≡◌, List, [], ◌∷◌, Contains}
+use Rattle.std.specs.Prelude.{◌≤◌, ℕ, ◌≡◌, List, [], ◌∷◌, Contains}
 use Rattle.gw_wire.specs.declared.values.Act.{Act}
 use Rattle.gw_wire.specs.declared.values.Act.TheVariants.{Dialed, DialFailed}
 use Rattle.gw_wire.specs.declared.values.Addr.{Addr}
@@ -33,5 +33,6 @@ pub record DialStep {C : Type 0} (link : C → LinkView) (old new : WireView) (h
   pub cause : DialCause old new result
   pub log : (reached : Addr) × Reaches old address reached × Appends old.log new.log (dial_act link host reached result)
   pub moment : new.moment ≡ old.moment
+  pub begun : new.first ≤ new.moment
   pub asked : new.asked ≡ old.asked
   pub aged : new.aged ≡ old.aged

@@ -5,9 +5,14 @@ pub mod Causes
 pub mod DialStep
 pub mod Link
 pub mod Memory
+pub mod MemoryLink
+pub mod Moments
+pub mod Play
 pub mod ReadStep
 pub mod Script
+pub mod Shuffle
 pub mod Stretch
+pub mod Visible
 pub mod Wire
 pub mod World
 pub mod WriteStep

@@ -42,5 +42,6 @@ pub record ReadStep (old new : WireView) (from to : LinkView) (buffer : List ℕ
   pub cause : ReadCause old new from to buffer result
   pub log : Logs old.log new.log (read_acts from.number buffer result)
   pub moment : new.moment ≡ old.moment
+  pub begun : new.first ≤ new.moment
   pub asked : new.asked ≡ old.moment
   pub aged : new.aged ≡ is_read_tick result

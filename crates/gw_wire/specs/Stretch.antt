@@ -1,12 +1,11 @@
 -- Stretches of a log: what a call, or a row of calls, has added to it.
-use Rattle.std.specs.Prelude.{◌≡◌, List, ◌++◌, Option, Some, None, ◌⊎◌}
+use Rattle.std.specs.Prelude.{◌≡◌, List, ◌++◌, Option, ◌⊎◌}
 use Rattle.gw_wire.specs.declared.values.Act.{Act}
+use Rattle.gw_wire.specs.Acts.{Logs}
 
--- a log that is told was told before, and has grown by a stretch of which the fact holds
+-- these acts were done, of which the fact holds, and a log that is told has grown by them
 abbrev pub Told : Option (List Act) → Option (List Act) → (List Act → Type 0) → Type 0
-Told old None P = Unit {0}
-Told None (Some new) P = ⊥
-Told (Some old) (Some new) P = (stretch : List Act) × (new ≡ old ++ stretch) × P stretch
+Told old new P = (acts : List Act) × Logs old new acts × P acts
 
 -- a stretch of these acts alone
 abbrev pub Acts : List Act → List Act → Type 0

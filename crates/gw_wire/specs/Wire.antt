@@ -59,6 +59,7 @@ pub record CloseStep (old new : WireView) (link : ℕ) : Type 0 where
   pub later : Later old new
   pub log : Appends old.log new.log (Closed link)
   pub moment : new.moment ≡ old.moment
+  pub begun : new.first ≤ new.moment
   pub asked : new.asked ≡ old.asked
   pub aged : new.aged ≡ old.aged
 
@@ -69,6 +70,7 @@ pub record RestStep (old new : WireView) : Type 0 where
   pub ticks : new.ticks ≡ old.ticks
   pub log : Logs old.log new.log []
   pub moment : new.moment ≡ old.moment
+  pub begun : new.first ≤ new.moment
   pub asked : new.asked ≡ old.moment
   pub aged : new.aged ≡ true
 
@@ -76,6 +78,7 @@ pub record RestStep (old new : WireView) : Type 0 where
 pub record NowStep (old new : WireView) (now : ℕ) : Type 0 where
   pub later : Later old new
   pub given : new.moment ≡ now
+  pub begun : new.first ≤ now
   pub year : now < 253402300800000
   pub log : Logs old.log new.log []
   pub asked : new.asked ≡ old.asked

@@ -33,5 +33,6 @@ pub record WriteStep (old new : WireView) (from to : LinkView) (bytes : List ℕ
   pub cause : WriteCause old new from to bytes result
   pub log : Logs old.log new.log (write_acts from.number bytes result)
   pub moment : new.moment ≡ old.moment
+  pub begun : new.first ≤ new.moment
   pub asked : new.asked ≡ old.moment
   pub aged : new.aged ≡ is_write_tick result

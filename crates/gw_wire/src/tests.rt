@@ -1,6 +1,8 @@
 // The forms in memory, as a test of a crate above uses them.
 
-ghost use Rattle.std.specs.Prelude.{◌≡◌, IfOk, [], ◌∷◌};
+ghost use Rattle.std.specs.Prelude.{◌≡◌, IfOk, IsTrue, [], ◌∷◌};
+ghost use Rattle.std.specs.List.{list_all};
+ghost use Rattle.gw_wire.specs.Script.{is_visible_peer};
 
 use super::*;
 use std::alloc::{AllocError, Global};
@@ -23,7 +25,8 @@ fn client(alloc: Global) -> Result<MemConn, AllocError> {
 }
 
 fn script(alloc: Global) -> Result<Script, AllocError>
-    ensures { IfOk result (λ s. s.moments.items ≡ record { from = 0; at = 784111777000 } ∷ record { from = 2; at = 784111777500 } ∷ []) }
+    ensures moments { IfOk result (λ s. s.moments.items ≡ record { from = 0; at = 784111777000 } ∷ record { from = 2; at = 784111777500 } ∷ []) }
+    ensures peers { IfOk result (λ s. IsTrue (list_all is_visible_peer s.accepts.items)) }
 {
     let peer = PeerText::new(b"10.0.0.7");
     let mut accepts = Vec::new(alloc);

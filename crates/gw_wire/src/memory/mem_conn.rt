@@ -1,10 +1,9 @@
 // A link in memory.
 
-ghost use Rattle.std.specs.Prelude.{◌≡◌, ◌<◌, ◌≤◌, ◌++◌, length, drop, take};
-ghost use Rattle.gw_wire.specs.Memory.{conn_view, ReceiveCause, SendCause};
+ghost use Rattle.std.specs.Prelude.{◌≡◌, ◌<◌, ◌≤◌, length, drop, min, take};
 ghost use Rattle.gw_wire.specs.Link.{LinkLater};
+ghost use Rattle.gw_wire.specs.MemoryLink.{ReceiveCause, SendCause, conn_view, cut, first_len, heard, met, received, sent, taken_by, IsReady};
 ghost use Rattle.gw_wire.specs.ReadStep.{given_by};
-ghost use Rattle.gw_wire.specs.Script.{sent_by, first_len, IsReady};
 
 use crate::memory::script::ConnEvent;
 use crate::traits::{Link, Read, Write};
@@ -27,17 +26,16 @@ pub struct MemConn {
 
 impl Model for MemConn {
     ghost use Rattle.std.specs.Prelude.{drop, ◌≤◌};
-    ghost use Rattle.gw_wire.specs.Memory.{ConnState};
+    ghost use Rattle.gw_wire.specs.MemoryLink.{ConnState, cut, first_len};
 
     ghost Value = { ConnState };
-
-    ghost use Rattle.gw_wire.specs.Script.{sent_by, first_len};
 
     ghost view = { λ c. record {
       number = c.number;
       faults = c.faults;
       ends = c.ends;
-      coming = drop c.offset (sent_by (drop c.place c.events.items));
+      events = cut c.offset (drop c.place c.events.items);
+      takes = drop c.written c.writes.items;
     } };
 
     ghost invariant = { λ c. c.offset ≤ first_len (drop c.place c.events.items) };
@@ -54,7 +52,7 @@ impl Link for MemConn {
 impl MemConn {
     /// A link of this number that meets these events when it is read, and whose writes take these many bytes each.
     pub fn new(number: u64, events: Vec<ConnEvent>, writes: Vec<u32>) -> MemConn
-        ensures { result ≡ record { number = number; faults = 0; ends = 0; coming = sent_by events.items } }
+        ensures { result ≡ record { number = number; faults = 0; ends = 0; events = events.items; takes = writes.items } }
     {
         MemConn {
             number,
@@ -71,9 +69,11 @@ impl MemConn {
     /// Plays the next event of the reads.
     pub(crate) fn receive(&mut self, buf: &mut [u8]) -> Read
         requires { 0 < length buf.old }
-        ensures link { LinkLater (conn_view self.old) (conn_view self.new) }
+        ensures later { LinkLater (conn_view self.old) (conn_view self.new) }
         ensures cause { ReceiveCause self.old self.new buf.new result }
-        ensures kept { self.old.coming ≡ given_by buf.new result ++ self.new.coming }
+        ensures answer { result ≡ (heard (length buf.old) self.old.events).answer }
+        ensures bytes { given_by buf.new result ≡ (heard (length buf.old) self.old.events).bytes }
+        ensures link { self.new ≡ received (length buf.old) self.old }
     {
         let (place, offset) = next_event(self.events.as_slice(), self.place, self.offset);
         self.place = place;
@@ -108,9 +108,10 @@ impl MemConn {
     /// Plays the next of the writes.
     pub(crate) fn send(&mut self, bytes: &[u8]) -> Write
         requires { 0 < length bytes.now }
-        ensures link { LinkLater (conn_view self.old) (conn_view self.new) }
+        ensures later { LinkLater (conn_view self.old) (conn_view self.new) }
         ensures cause { SendCause self.old self.new bytes.now result }
-        ensures kept { self.new.coming ≡ self.old.coming }
+        ensures answer { result ≡ taken_by (length bytes.now) self.old.takes }
+        ensures link { self.new ≡ sent (length bytes.now) self.old }
     {
         let Some(takes) = self.writes.get(self.written) else {
             return Write::Took(bytes.len());
@@ -128,7 +129,7 @@ impl MemConn {
 // The place of the next event that isn't a piece read to its end, and the offset into it.
 fn next_event(events: &[ConnEvent], place: usize, offset: usize) -> (usize, usize)
     requires { offset ≤ first_len (drop place events.now) }
-    ensures kept { drop result.1 (sent_by (drop result.0 events.now)) ≡ drop offset (sent_by (drop place events.now)) }
+    ensures met { cut result.1 (drop result.0 events.now) ≡ met (cut offset (drop place events.now)) }
     ensures ready { IsReady (drop result.0 events.now) result.1 }
 {
     let mut offset = offset;
@@ -152,9 +153,7 @@ fn next_event(events: &[ConnEvent], place: usize, offset: usize) -> (usize, usiz
 fn copy_front(bytes: &[u8], buf: &mut [u8]) -> usize
     requires some { 0 < length bytes.now }
     requires room { 0 < length buf.old }
-    ensures some { 0 < result }
-    ensures within { result ≤ length bytes.now }
-    ensures fits { result ≤ length buf.new }
+    ensures count { result ≡ min (length bytes.now) (length buf.old) }
     ensures copied { take result buf.new ≡ take result bytes.now }
 {
     let n = bytes.len().min(buf.len());

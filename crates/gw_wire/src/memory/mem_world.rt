@@ -1,13 +1,14 @@
 // A world in memory.
 
 ghost use Rattle.std.specs.Prelude.{◌≡◌, ◌≤◌, ◌↔◌, length, IsTrue, IsSome, IfSome, IfOk, All};
-ghost use Rattle.gw_wire.specs.Memory.{world_view, fresh_world};
+ghost use Rattle.gw_wire.specs.Memory.{ListenPlays, LoadPlays, PrintPlays, count_of, fresh_world, world_view};
 ghost use Rattle.gw_wire.specs.Wire.{IsFresh};
-ghost use Rattle.gw_wire.specs.World.{file_of, AreFresh, FoundFile};
+ghost use Rattle.gw_wire.specs.World.{file_of, AreFresh, FoundFile, ListenStep, LoadStep, PrintStep};
 
+use crate::error::NoMemory;
 use crate::traits::{Listening, Loaded, Printed, Wire, World};
 use crate::values::{Addr, Bytes};
-use std::alloc::{AllocError, Global};
+use std::alloc::Global;
 use std::marker::Model;
 
 /// A world of files by name, wires that `listen` gives once, and what was printed.
@@ -27,7 +28,7 @@ pub struct MemWorld<W: Wire> {
 
 impl<W: Wire> Model for MemWorld<W> {
     ghost use Rattle.std.specs.Prelude.{Some, None, if◌then◌else◌};
-    ghost use Rattle.gw_wire.specs.Memory.{WorldState, told_when, listens_at};
+    ghost use Rattle.gw_wire.specs.Memory.{WorldState, count_of, told_when, listens_at};
     ghost use Rattle.gw_wire.specs.World.{AreFresh};
 
     ghost Value = { WorldState };
@@ -39,6 +40,8 @@ impl<W: Wire> Model for MemWorld<W> {
       printed = told_when w.telling w.printed.items;
       files = w.files.items;
       listened = listens_at w.listened;
+      prints = w.prints;
+      wires = count_of w.wires;
     } };
 
     ghost invariant = { λ w. AreFresh W.wire w.wires };
@@ -52,9 +55,9 @@ impl<W: Wire> MemWorld<W> {
         files: Vec<(Bytes, Bytes)>,
         wires: Option<Vec<W>>,
         prints: bool,
-    ) -> Result<MemWorld<W>, AllocError>
+    ) -> Result<MemWorld<W>, NoMemory>
         requires { AreFresh W.wire wires }
-        ensures { IfOk result (λ world. world ≡ fresh_world files.items) }
+        ensures { IfOk result (λ world. world ≡ fresh_world files.items (count_of wires) prints) }
     {
         Ok(MemWorld {
             alloc,
@@ -83,7 +86,10 @@ impl<W: Wire + Send> World for MemWorld<W> {
 
     ghost world = { world_view };
 
-    fn read_routes(&mut self, name: &str) -> Loaded {
+    fn read_routes(&mut self, name: &str) -> Loaded
+        ensures step { LoadStep (world_view self.old) (world_view self.new) name.now result }
+        ensures plays { LoadPlays self.old name.now result }
+    {
         match find_file(self.files.as_slice(), name.as_bytes()) {
             Some(bytes) => match bytes.to_vec(self.alloc) {
                 Ok(bytes) => Loaded::Bytes(bytes),
@@ -96,7 +102,10 @@ impl<W: Wire + Send> World for MemWorld<W> {
         }
     }
 
-    fn listen(&mut self, addr: &Addr, workers: u32) -> Listening<W> {
+    fn listen(&mut self, addr: &Addr, workers: u32) -> Listening<W>
+        ensures step { ListenStep W.wire (world_view self.old) (world_view self.new) addr.now workers result }
+        ensures plays { ListenPlays self.old workers result }
+    {
         if let Some(wires) = self.wires.take() {
             if wires.len() == workers as usize {
                 self.listened = Some((*addr, workers));
@@ -107,7 +116,10 @@ impl<W: Wire + Send> World for MemWorld<W> {
         Listening::Failed
     }
 
-    fn print(&mut self, bytes: &[u8]) -> Printed {
+    fn print(&mut self, bytes: &[u8]) -> Printed
+        ensures step { PrintStep (world_view self.old) (world_view self.new) bytes.now result }
+        ensures plays { PrintPlays self.old result }
+    {
         if !self.prints {
             self.print_faults = self.print_faults.saturating_add(1);
             return Printed::Failed;

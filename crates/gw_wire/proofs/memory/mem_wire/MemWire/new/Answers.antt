@@ -4,7 +4,7 @@ use Rattle.gw_wire.proofs.memory.mem_wire.MemWire.new.Goals as goal
 
 pub invariant_of-result : goal.invariant_of-result
 invariant_of-result c =
-    let before = clock_before c.args.script.moments.items c.requires in
-    let here = before 0 c.index.result.now (clock_begins c.args.script.moments.items c.requires) in
+    let before = clock_before c.args.script.moments.items c.requires.clock in
+    let here = before 0 c.index.result.now (clock_begins c.args.script.moments.items c.requires.clock) in
     let is : c.index.result.now.at ≡ (get_or c.args.script.moments.items 0 c.index.result.now).at = ap (λ m. m.at) c.index.ensures in
-    (omega arith, omega (arith, here, is), before)
+    (omega arith, omega (arith, here, is), before, rw c.from.ensures.0 c.requires.peers)

@@ -1,0 +1,4 @@
+// Want of memory.
+
+/// The want of memory.
+pub type NoMemory = std::alloc::AllocError;
