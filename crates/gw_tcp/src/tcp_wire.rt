@@ -1,7 +1,9 @@
 // Real sockets and a real clock as a wire. Nothing is told of what they hold.
 
-ghost use Rattle.std.specs.Prelude.{◌<◌, ◌≤◌};
+ghost use Rattle.std.specs.Prelude.{◌≡◌, ◌<◌, ◌≤◌, true};
+ghost use Rattle.gw_wire.specs.Visible.{AreVisible, is_visible};
 
+use arrayvec::ArrayVec;
 use gw_wire::{Accept, Addr, Dial, Link, PeerText, Read, Wire, Write};
 use std::io;
 use std::io::ErrorKind;
@@ -26,6 +28,9 @@ const DRAIN_BYTES: usize = 4_096;
 
 /// The first moment of the year 10000, in milliseconds since 1970-01-01T00:00:00Z.
 const YEAR_10000: u64 = 253_402_300_800_000;
+
+// The longest text of an IPv4 address.
+type Dotted = ArrayVec<u8, 15>;
 
 /// A connection of the system.
 #[derive(Drop)]
@@ -281,55 +286,48 @@ fn drain<R: Clock>(rt: &R, stream: &mut TcpStream) {
     }
 }
 
-// The dotted text of an IPv4 address, and of any other none.
-fn peer_text(peer: SocketAddr) -> PeerText {
-    let octets = match peer {
+// The dotted text of an IPv4 address, and for any other that of 0.0.0.0.
+fn peer_text(peer: SocketAddr) -> PeerText
+    ensures { AreVisible result }
+{
+    let [a, b, c, d] = match peer {
         SocketAddr::V4(peer) => peer.ip().octets(),
         SocketAddr::V6(_) => [0; 4],
     };
-    let mut text = Dotted {
-        bytes: [0; 15],
-        len: 0,
-    };
-    for (i, octet) in octets.iter().enumerate() {
-        if i > 0 {
-            text.push(b'.');
-        }
-        text.push_number(*octet);
+    let mut text = ArrayVec::new();
+    push_number(&mut text, a);
+    push(&mut text, b'.');
+    push_number(&mut text, b);
+    push(&mut text, b'.');
+    push_number(&mut text, c);
+    push(&mut text, b'.');
+    push_number(&mut text, d);
+    match PeerText::new(text.as_slice()) {
+        Some(text) => text,
+        None => unreachable!(),
     }
-    text.finish()
 }
 
-// Up to 15 bytes of text.
-#[derive(Drop)]
-struct Dotted {
-    bytes: [u8; 15],
-    len: usize,
-    ghost fits: { len ≤ 15 },
+// A byte more where there is room; four numbers and three dots have room.
+fn push(text: &mut Dotted, byte: u8)
+    requires visible { is_visible byte ≡ true }
+    requires before { AreVisible text.old.items }
+    ensures { AreVisible text.new.items }
+{
+    if !text.is_full() {
+        text.push(byte);
+    }
 }
 
-impl Dotted {
-    fn push(&mut self, byte: u8) {
-        if self.len < 15 {
-            self.bytes[self.len] = byte;
-            self.len += 1;
-        }
+fn push_number(text: &mut Dotted, n: u8)
+    requires before { AreVisible text.old.items }
+    ensures { AreVisible text.new.items }
+{
+    if n >= 100 {
+        push(text, b'0' + n / 100);
     }
-
-    fn push_number(&mut self, n: u8) {
-        if n >= 100 {
-            self.push(b'0' + n / 100);
-        }
-        if n >= 10 {
-            self.push(b'0' + n / 10 % 10);
-        }
-        self.push(b'0' + n % 10);
+    if n >= 10 {
+        push(text, b'0' + n / 10 % 10);
     }
-
-    fn finish(&self) -> PeerText {
-        match PeerText::new(&self.bytes[..self.len]) {
-            Some(text) => text,
-            None => unreachable!(),
-        }
-    }
+    push(text, b'0' + n % 10);
 }

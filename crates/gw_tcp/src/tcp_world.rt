@@ -1,8 +1,8 @@
 // The files, the listener and the output of the machine as a world. Nothing is told of what they hold.
 
-ghost use Rattle.std.specs.Prelude.{◌≡◌, length, None, [], IfOk, All};
+ghost use Rattle.std.specs.Prelude.{◌≡◌, length, IfOk, All};
 ghost use Rattle.gw_wire.specs.World.{IsAlone};
-ghost use Rattle.gw_tcp.specs.TcpView.{tcp_view};
+ghost use Rattle.gw_tcp.specs.TcpView.{IsUnused, tcp_view, tcp_world_view};
 
 use crate::tcp_wire::{TcpWire, listen};
 use gw_wire::{Addr, Listening, Loaded, Printed, World};
@@ -27,7 +27,9 @@ pub struct TcpWorld<R> {
 
 impl<R> TcpWorld<R> {
     /// The machine that this runtime stands for.
-    pub fn new(rt: R, alloc: Global) -> TcpWorld<R> {
+    pub fn new(rt: R, alloc: Global) -> TcpWorld<R>
+        ensures { IsUnused (tcp_world_view result) }
+    {
         TcpWorld {
             rt,
             alloc,
@@ -49,15 +51,7 @@ impl<
 > World for TcpWorld<R> {
     type Wire = TcpWire<R>;
 
-    ghost world = { λ w. record {
-      file_faults = w.file_faults;
-      listen_faults = w.listen_faults;
-      print_faults = w.print_faults;
-      groups = λ _. [];
-      printed = None;
-      files = None;
-      listened = None;
-    } };
+    ghost world = { tcp_world_view };
 
     fn read_routes(&mut self, name: &str) -> Loaded {
         match read_file(&self.rt, self.alloc, name) {

@@ -1,5 +1,5 @@
 -- What is left of a script without a failure has none either.
-use Rattle.std.proofs.Common.{◌≡◌, ℕ, ◌&&◌, true, false, IsTrue, List, [], ◌∷◌, length, min, drop, refl, subst, sym}
+use Rattle.std.proofs.Common.{◌≡◌, ℕ, true, IsTrue, List, [], ◌∷◌, refl}
 use Rattle.std.specs.List.{list_all}
 use Rattle.std.proofs.lemmas.Bool.{and_parts, and_from}
 use Rattle.gw_wire.specs.declared.memory.script.ConnEvent.{ConnEvent}

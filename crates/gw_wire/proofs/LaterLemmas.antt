@@ -1,5 +1,5 @@
 -- What stays and what never falls, call after call.
-use Rattle.std.proofs.Common.{ℕ, ◌≡◌, ◌≤◌, ◌++◌, List, [], ◌∷◌, refl, ◌∙◌, arith}
+use Rattle.std.proofs.Common.{ℕ, ◌≤◌, ◌++◌, List, [], ◌∷◌, refl, ◌∙◌, arith}
 use Rattle.gw_wire.specs.Link.{LinkView, LinkLater}
 use Rattle.gw_wire.specs.Moments.{Rises}
 use Rattle.gw_wire.specs.Wire.{WireView, Later}

@@ -1,9 +1,9 @@
 -- How a link's script is met, and that no byte of it is lost or given twice.
-use Rattle.std.proofs.Common.{◌≡◌, ◌≤◌, ◌<◌, ℕ, ◌+◌, List, [], ◌∷◌, ◌++◌, length, drop, take, min, get_or, refl, ap, sym, ◌∙◌, append_assoc, arith, length-drop}
-use Rattle.std.proofs.lemmas.List.{drop_more, drop-drop, take-append-drop}
+use Rattle.std.proofs.Common.{◌≡◌, ◌<◌, ℕ, ◌+◌, List, [], ◌∷◌, ◌++◌, length, drop, take, min, get_or, refl, ap, sym, ◌∙◌, append_assoc, arith, length-drop}
+use Rattle.std.proofs.lemmas.List.{drop_more, take-append-drop}
 use Rattle.gw_wire.specs.declared.memory.script.ConnEvent.{ConnEvent}
 use Rattle.gw_wire.specs.declared.memory.script.ConnEvent.TheVariants.{Piece, Tick, End, Failed}
-use Rattle.gw_wire.specs.MemoryLink.{cut, first_len, met, heard, heard_of, sent_by, ScriptBytesAreKept}
+use Rattle.gw_wire.specs.MemoryLink.{cut, met, heard, heard_of, sent_by, ScriptBytesAreKept}
 
 kept_piece : (n : ℕ) (bytes : List ℕ) (events : List ConnEvent) → bytes ++ sent_by events ≡ take n bytes ++ (drop n bytes ++ sent_by events)
 kept_piece n bytes events =

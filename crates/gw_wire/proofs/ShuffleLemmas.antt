@@ -1,11 +1,11 @@
 -- Each of two rows that interleave is found again by its link's number.
-use Rattle.std.proofs.Common.{ℕ, ◌≡◌, nat_eq, true, false, Bool, cond, List, [], ◌∷◌, ◌++◌, refl, ap, sym, subst, ◌∙◌, inl, inr, arith}
+use Rattle.std.proofs.Common.{ℕ, ◌≡◌, nat_eq, true, false, List, [], ◌∷◌, ◌++◌, refl, ap, sym, subst, ◌∙◌, inl, inr}
 use Rattle.std.proofs.lemmas.Bool.{eqb-true, ne_eqb}
-use Rattle.std.specs.List.{All, filter, flat_map}
-use Rattle.std.proofs.lemmas.List.Elements.{All-nil, All-cons, All-head, All-tail, All-rest}
+use Rattle.std.specs.List.{All}
+use Rattle.std.proofs.lemmas.List.Elements.{All-nil, All-cons, All-head, All-tail}
 use Rattle.gw_wire.specs.declared.values.Act.{Act}
 use Rattle.gw_wire.specs.declared.values.Act.TheVariants.{Accepted, Dialed, DialFailed, Read, End, Wrote, ReadFailed, WriteFailed, Closed, AcceptFailed, Ended}
-use Rattle.gw_wire.specs.Acts.{is_of, acts_of, read_of, written_of, bytes_read, bytes_written}
+use Rattle.gw_wire.specs.Acts.{is_of, read_of, written_of, bytes_read, bytes_written}
 use Rattle.gw_wire.specs.Shuffle.{Shuffle, Ours, Others, HasSide, SidesAreFound, SecondSidesAreFound, OtherLinksDiffer}
 
 unread : (k : ℕ) (act : Act) → is_of k act ≡ false → read_of k act ≡ []

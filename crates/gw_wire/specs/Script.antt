@@ -1,5 +1,5 @@
 -- What a script of a wire in memory has to meet.
-use Rattle.std.specs.Prelude.{ℕ, ◌≡◌, Bool, true, false, ◌&&◌, nat_lt, nat_le, nat_eq, List, [], ◌∷◌, ◌<◌, All}
+use Rattle.std.specs.Prelude.{ℕ, Bool, true, false, ◌&&◌, nat_lt, nat_le, nat_eq, List, [], ◌∷◌, ◌<◌, All}
 use Rattle.std.specs.List.{list_all}
 use Rattle.gw_wire.specs.declared.memory.script.AcceptEvent.{AcceptEvent}
 use Rattle.gw_wire.specs.declared.memory.script.AcceptEvent.TheVariants as coming

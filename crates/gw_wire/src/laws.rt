@@ -7,23 +7,19 @@ ghost use Rattle.gw_wire.specs.Shuffle.{SidesAreFound, SecondSidesAreFound, Othe
 /// row has nothing of that link.
 pub fn sides_are_found()
     ensures { SidesAreFound }
-{
-}
+{}
 
 /// The same of the second row.
 pub fn second_sides_are_found()
     ensures { SecondSidesAreFound }
-{
-}
+{}
 
 /// The acts on one link are none of a link with another number.
 pub fn other_links_differ()
     ensures { OtherLinksDiffer }
-{
-}
+{}
 
 /// No byte of a link's script in memory is lost or given twice.
 pub fn script_bytes_are_kept()
     ensures { ScriptBytesAreKept }
-{
-}
+{}

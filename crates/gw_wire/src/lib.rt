@@ -9,7 +9,9 @@ mod traits;
 mod values;
 
 pub use error::NoMemory;
-pub use laws::{other_links_differ, script_bytes_are_kept, second_sides_are_found, sides_are_found};
+pub use laws::{
+    other_links_differ, script_bytes_are_kept, second_sides_are_found, sides_are_found,
+};
 pub use memory::script::{AcceptEvent, ConnEvent, DialEvent, Moment, Script};
 pub use memory::{HonestConn, HonestWire, MeetConn, MeetWire, MemConn, MemWire, MemWorld};
 pub use traits::{Accept, Dial, Link, Listening, Loaded, Printed, Read, Wire, World, Write};

@@ -2,13 +2,19 @@
 
 ghost use Rattle.std.specs.Prelude.{◌≡◌, IfOk, IsTrue, [], ◌∷◌};
 ghost use Rattle.std.specs.List.{list_all};
-ghost use Rattle.gw_wire.specs.Script.{is_visible_peer};
+ghost use Rattle.gw_wire.specs.Script.{is_clock, is_honest_accept, is_honest_dial, is_visible_peer};
 
 use super::*;
 use std::alloc::{AllocError, Global};
 use std::test::Fail;
 
 const NOW: u64 = 784_111_777_000;
+
+const HERE: Addr = Addr {
+    local: true,
+    ip: [127, 0, 0, 1],
+    port: 80,
+};
 
 fn bytes(alloc: Global, text: &[u8]) -> Result<Bytes, AllocError> {
     Ok(Bytes::new(text.to_vec(alloc)?))
@@ -101,12 +107,7 @@ fn writes_play_a_script(rt: HostRuntime) -> Result<(), Fail> {
     let _ = wire.now();
     assert!(rt; matches!(wire.write(&mut conn, b"ld"), Write::Failed));
     wire.close(conn);
-    let here = Addr {
-        local: true,
-        ip: [127, 0, 0, 1],
-        port: 80,
-    };
-    assert!(rt; matches!(wire.dial(0, &here), Dial::Failed));
+    assert!(rt; matches!(wire.dial(0, &HERE), Dial::Failed));
     assert!(rt; matches!(wire.accept(), Accept::Failed));
     assert!(rt; matches!(wire.accept(), Accept::Ended));
     assert!(rt; told_writes(wire.acts()));
@@ -140,6 +141,87 @@ fn is_written(act: &Act, bytes: &[u8]) -> bool {
         Act::Wrote(7, wrote) => wrote.as_slice() == bytes,
         _ => false,
     }
+}
+
+// A script on which nothing fails: a client that sends a line and ends.
+fn honest_script(alloc: Global) -> Result<Script, AllocError>
+    ensures clock { IfOk result (λ s. IsTrue (is_clock s.moments.items)) }
+    ensures accepts { IfOk result (λ s. IsTrue (list_all is_honest_accept s.accepts.items)) }
+    ensures peers { IfOk result (λ s. IsTrue (list_all is_visible_peer s.accepts.items)) }
+    ensures dials { IfOk result (λ s. IsTrue (list_all is_honest_dial s.dials.items)) }
+{
+    Ok(Script {
+        accepts: Vec::new(alloc),
+        dials: Vec::new(alloc),
+        moments: vec![in alloc; Moment { from: 0, at: NOW }]?,
+        acts: 4,
+        bytes: 16,
+    })
+}
+
+#[test]
+fn nothing_fails_on_an_honest_wire(rt: HostRuntime) -> Result<(), Fail> {
+    let mut wire = HonestWire::new(rt.alloc(), honest_script(rt.alloc())?)?;
+    let mut buf = [0; 3];
+    assert!(rt; matches!(wire.accept(), Accept::Ended));
+    let Dial::Conn(mut silent) = wire.dial(3, &HERE) else {
+        panic!(rt; "a dial failed");
+    };
+    assert_eq!(rt; silent.number(), 0);
+    let _ = wire.now();
+    assert!(rt; matches!(wire.read(&mut silent, &mut buf), Read::End));
+    assert!(rt; matches!(wire.acts(), [Act::Ended, Act::Dialed(3, _, 0), Act::End(0)]));
+    Ok(())
+}
+
+// A script with one backend that answers at once.
+fn answered(alloc: Global) -> Result<Script, AllocError>
+    ensures clock { IfOk result (λ s. IsTrue (is_clock s.moments.items)) }
+    ensures peers { IfOk result (λ s. IsTrue (list_all is_visible_peer s.accepts.items)) }
+{
+    let answer = ConnEvent::Piece(bytes(alloc, b"HTTP/1.1 204 No Content\r\n\r\n")?);
+    let backend = MemConn::new(1, vec![in alloc; answer]?, vec![in alloc; 64]?);
+    Ok(Script {
+        accepts: Vec::new(alloc),
+        dials: vec![in alloc; DialEvent::Conn(backend)]?,
+        moments: vec![in alloc; Moment { from: 0, at: NOW }]?,
+        acts: 8,
+        bytes: 128,
+    })
+}
+
+#[test]
+fn wires_that_meet_wait_for_the_other_request(rt: HostRuntime) -> Result<(), Fail> {
+    let alloc = rt.alloc();
+    let (mut one, mut two) = MeetWire::pair(alloc, answered(alloc)?, answered(alloc)?)?;
+    let mut buf = [0; 64];
+    let Dial::Conn(mut first) = one.dial(0, &HERE) else {
+        panic!(rt; "no backend");
+    };
+    let Dial::Conn(mut second) = two.dial(0, &HERE) else {
+        panic!(rt; "no backend");
+    };
+    let _ = one.now();
+    assert!(rt;
+        matches!(
+            one.write(&mut first, b"GET / HTTP/1.1\r\nHost: a\r\n\r\n"),
+            Write::Took(27)
+        )
+    );
+    let _ = one.now();
+    assert!(rt; matches!(one.read(&mut first, &mut buf), Read::Tick));
+    let _ = two.now();
+    assert!(rt;
+        matches!(
+            two.write(&mut second, b"GET / HTTP/1.1\r\nHost: a\r\n\r\n"),
+            Write::Took(27)
+        )
+    );
+    let _ = one.now();
+    assert!(rt; matches!(one.read(&mut first, &mut buf), Read::Got(27)));
+    let _ = two.now();
+    assert!(rt; matches!(two.read(&mut second, &mut buf), Read::Got(27)));
+    Ok(())
 }
 
 #[test]

@@ -65,7 +65,11 @@ impl Model for MeetWire {
 
 impl MeetWire {
     /// Two wires that play these scripts and wait for each other.
-    pub fn pair(alloc: Global, first: Script, second: Script) -> Result<(MeetWire, MeetWire), NoMemory>
+    pub fn pair(
+        alloc: Global,
+        first: Script,
+        second: Script,
+    ) -> Result<(MeetWire, MeetWire), NoMemory>
         requires clock { IsTrue (is_clock first.moments.items) }
         requires peers { IsTrue (list_all is_visible_peer first.accepts.items) }
         requires second_clock { IsTrue (is_clock second.moments.items) }

@@ -1,4 +1,4 @@
-use Rattle.std.proofs.Common.{◌≡◌, rules, refl, [], List, length}
+use Rattle.std.proofs.Common.{◌≡◌, rules, refl, [], List}
 use Rattle.std.specs.List.{All}
 use Rattle.std.proofs.lemmas.List.Elements.{All-weaker}
 use Rattle.gw_wire.specs.World.{IsAlone, IsGiven, WorldView}

@@ -1,4 +1,4 @@
-use Rattle.std.proofs.Common.{◌≡◌, ◌<◌, length, get_or, subst, sym, ◌∙◌, arith}
+use Rattle.std.proofs.Common.{◌≡◌, ◌<◌, length, get_or, subst, sym, ◌∙◌}
 use Rattle.gw_wire.specs.declared.memory.script.ConnEvent.{ConnEvent}
 use Rattle.gw_wire.proofs.ScriptLemmas.{met_ready}
 use Rattle.gw_wire.proofs.memory.mem_conn.next_event.Goals as goal
