@@ -27,4 +27,8 @@ pub mod Served
 pub mod Least
 pub mod Outs
 pub mod Dialings
+pub mod RowSteps
+pub mod Owners
+pub mod Callers
+pub mod Staying
 mod WorkedRows

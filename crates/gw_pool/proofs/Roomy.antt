@@ -6,7 +6,7 @@ use Rattle.gw_pool.specs.declared.entry.Call.{Call}
 use Rattle.gw_pool.specs.declared.entry.Call.TheVariants as call
 use Rattle.gw_pool.specs.State.{State, empty, is_with, take_oldest}
 use Rattle.gw_pool.specs.Machine.{Outcome, step}
-use Rattle.gw_pool.specs.History.{IsLegal, after, moved, state_of, room, is_full}
+use Rattle.gw_pool.specs.History.{IsLegal, after, moved, state_of, room, refuses}
 use Rattle.gw_pool.specs.Laws.{NeverFull, makes_want}
 use Rattle.gw_pool.proofs.Shelves.{out_at}
 use Rattle.gw_pool.proofs.Edits.{found_passes}
@@ -59,7 +59,7 @@ Fits : Limits → List Entry → State → Type 0
 Fits limits h s = (s ≡ after limits h) × (NeverFull limits h → length h + room s ≤ limits.journal)
 
 grows : (limits : Limits) (before : List Entry) (s : State) (e : Entry) (o : Outcome) (b : Bool) → step limits s e.caller e.call ≡ Some o → makes_want e.call ≡ b → s ≡ after limits before → NeverFull limits (before ++ e ∷ []) → length before + room s ≤ limits.journal → length before + 1 + room o.state ≤ limits.journal
-unfolding is_full
+unfolding refuses
 grows limits before s e o true f m same n h =
     let full : nat_lt limits.journal (length before + room (after limits before) + 6) ≡ false = n before [] e refl m in
     let left : length before + room (after limits before) + 6 ≤ limits.journal = ltb-false limits.journal (length before + room (after limits before) + 6) full in

@@ -12,7 +12,7 @@ use Rattle.gw_pool.specs.declared.rows.Place.{Place}
 use Rattle.gw_pool.specs.declared.rows.Place.TheVariants.{Out, Idle}
 use Rattle.gw_pool.specs.Places.{is_out_to, has_stamp}
 use Rattle.gw_pool.specs.State.{remove_first, is_with, rests_since_stamp, rests_for_since_stamp}
-use Rattle.gw_pool.specs.Shelf.{AreKept, IsKept, HasConn, resting_row, row_of, taken_of, is_taken, lent_to, is_lent}
+use Rattle.gw_pool.specs.Shelf.{AreKept, IsKept, HasConn, resting_row, row_of, taken_of, is_among, lent_to, is_lent}
 
 pub kept_length : {C : Type 0} (link : C → LinkView) (rows : List ConnRow) (held : List (Option C)) → AreKept link rows held → length rows ≡ length held
 kept_length link [] [] k = refl
@@ -57,15 +57,15 @@ or_none : (a b : Bool) → a ≡ false → b ≡ false → (a || b) ≡ false
 or_none true b h k = h
 or_none false b h k = k
 
-lent_rest : (want : ℕ) (place : Place) (taken : List ℕ) → is_taken want (lent_to place ++ taken) ≡ false → is_taken want taken ≡ false
-lent_rest want (Out w c) taken h = or_right (w == want) (is_taken want taken) h
+lent_rest : (want : ℕ) (place : Place) (taken : List ℕ) → is_among want (lent_to place ++ taken) ≡ false → is_among want taken ≡ false
+lent_rest want (Out w c) taken h = or_right (w == want) (is_among want taken) h
 lent_rest want (Idle s t) taken h = h
 
-lent_join : (want : ℕ) (place : Place) (old new : List ℕ) → (is_taken want old ≡ false → is_taken want new ≡ false) → is_taken want (lent_to place ++ old) ≡ false → is_taken want (lent_to place ++ new) ≡ false
-lent_join want (Out w c) old new k h = or_none (w == want) (is_taken want new) (or_left (w == want) (is_taken want old) h) (k (or_right (w == want) (is_taken want old) h))
+lent_join : (want : ℕ) (place : Place) (old new : List ℕ) → (is_among want old ≡ false → is_among want new ≡ false) → is_among want (lent_to place ++ old) ≡ false → is_among want (lent_to place ++ new) ≡ false
+lent_join want (Out w c) old new k h = or_none (w == want) (is_among want new) (or_left (w == want) (is_among want old) h) (k (or_right (w == want) (is_among want old) h))
 lent_join want (Idle s t) old new k h = k h
 
-pub taken_remove : {C : Type 0} (link : C → LinkView) (rows : List ConnRow) (held : List (Option C)) (i want : ℕ) → AreKept link rows held → i < length rows → is_taken want (taken_of rows held) ≡ false → is_taken want (taken_of (remove rows i) (remove held i)) ≡ false
+pub taken_remove : {C : Type 0} (link : C → LinkView) (rows : List ConnRow) (held : List (Option C)) (i want : ℕ) → AreKept link rows held → i < length rows → is_among want (taken_of rows held) ≡ false → is_among want (taken_of (remove rows i) (remove held i)) ≡ false
 taken_remove link [] [] i want k l h = absurd (omega arith)
 taken_remove link [] (o ∷ hs) i want k l h = absurd k
 taken_remove link (r ∷ rs) [] i want k l h = absurd k
@@ -81,7 +81,7 @@ or_true true b h = refl
 or_true false b h = h
 
 is_lent_more : (taken : List ℕ) (other place : Place) → is_lent taken place ≡ true → is_lent (lent_to other ++ taken) place ≡ true
-is_lent_more taken (Out w c) (Out v d) h = or_true (w == v) (is_taken v taken) h
+is_lent_more taken (Out w c) (Out v d) h = or_true (w == v) (is_among v taken) h
 is_lent_more taken (Out w c) (Idle s t) h = h
 is_lent_more taken (Idle s t) place h = h
 
@@ -90,7 +90,7 @@ kept_more link taken other row (Some c) k = k
 kept_more link taken other row None k = is_lent_more taken other row.place k
 
 out_lent : (taken : List ℕ) (want caller : ℕ) (place : Place) → place ≡ Out want caller → is_lent (lent_to place ++ taken) place ≡ true
-out_lent taken want caller place e = rw e (ap (λ b. b || is_taken want taken) (eq-eqb want want refl))
+out_lent taken want caller place e = rw e (ap (λ b. b || is_among want taken) (eq-eqb want want refl))
 
 pub kept_at : {C : Type 0} (link : C → LinkView) (rows : List ConnRow) (held : List (Option C)) (i : ℕ) (d : ConnRow) (o : Option C) → AreKept link rows held → i < length rows → IsKept link (taken_of rows held) (slice_index_or rows i d) (slice_index_or held i o)
 kept_at link [] [] i d o k l = absurd (omega arith)
@@ -112,10 +112,10 @@ kept_lend link (r ∷ rs) (None ∷ hs) zero want caller d k l e = k
 kept_lend link (r ∷ rs) (Some c ∷ hs) (suc i) want caller d k l e = (k.0, kept_lend link rs hs i want caller d k.1 (omega arith) e)
 kept_lend link (r ∷ rs) (None ∷ hs) (suc i) want caller d k l e = (k.0, kept_lend link rs hs i want caller d k.1 (omega arith) e)
 
-lent_first : (other want caller : ℕ) (place : Place) (taken : List ℕ) → place ≡ Out want caller → (other ≡ want → ⊥) → is_taken other taken ≡ false → is_taken other (lent_to place ++ taken) ≡ false
-lent_first other want caller place taken e n h = rw e (or_none (want == other) (is_taken other taken) (ne_eqb want other (λ q. n (sym q))) h)
+lent_first : (other want caller : ℕ) (place : Place) (taken : List ℕ) → place ≡ Out want caller → (other ≡ want → ⊥) → is_among other taken ≡ false → is_among other (lent_to place ++ taken) ≡ false
+lent_first other want caller place taken e n h = rw e (or_none (want == other) (is_among other taken) (ne_eqb want other (λ q. n (sym q))) h)
 
-pub taken_lend : {C : Type 0} (link : C → LinkView) (rows : List ConnRow) (held : List (Option C)) (i want caller other : ℕ) (d : ConnRow) → AreKept link rows held → i < length rows → (slice_index_or rows i d).place ≡ Out want caller → (other ≡ want → ⊥) → is_taken other (taken_of rows held) ≡ false → is_taken other (taken_of rows (slice_set held i None)) ≡ false
+pub taken_lend : {C : Type 0} (link : C → LinkView) (rows : List ConnRow) (held : List (Option C)) (i want caller other : ℕ) (d : ConnRow) → AreKept link rows held → i < length rows → (slice_index_or rows i d).place ≡ Out want caller → (other ≡ want → ⊥) → is_among other (taken_of rows held) ≡ false → is_among other (taken_of rows (slice_set held i None)) ≡ false
 taken_lend link [] [] i want caller other d k l e n h = absurd (omega arith)
 taken_lend link [] (o ∷ hs) i want caller other d k l e n h = absurd k
 taken_lend link (r ∷ rs) [] i want caller other d k l e n h = absurd k
@@ -157,7 +157,7 @@ pub record Lending {C : Type 0} (link : C → LinkView) (rows : List ConnRow) (h
   pub within : i < length rows
   pub found : (d : ConnRow) → find (is_with want) rows ≡ Some (slice_index_or rows i d)
   pub kept : AreKept link rows (slice_set held i None)
-  pub taken : (other : ℕ) → (other ≡ want → ⊥) → is_taken other (taken_of rows held) ≡ false → is_taken other (taken_of rows (slice_set held i None)) ≡ false
+  pub taken : (other : ℕ) → (other ≡ want → ⊥) → is_among other (taken_of rows held) ≡ false → is_among other (taken_of rows (slice_set held i None)) ≡ false
 
 pub lending : {C : Type 0} (link : C → LinkView) (rows : List ConnRow) (held : List (Option C)) (i want : ℕ) (d : ConnRow) → AreKept link rows held → Some i ≡ position (is_with want) rows → Lending link rows held i want
 lending link rows held i want d k at =

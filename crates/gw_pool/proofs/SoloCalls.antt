@@ -21,7 +21,7 @@ use Rattle.gw_pool.specs.declared.leases.Put.{Put}
 use Rattle.gw_pool.specs.Closes.{IsOf}
 use Rattle.gw_pool.specs.State.{State, empty, wants_it, dials_for, has_number, is_with}
 use Rattle.gw_pool.specs.Machine.{Outcome, step, want_step, Standing, Served, MayDial, NotServed, NotComing, standing, stands_as, stage_standing}
-use Rattle.gw_pool.specs.History.{IsLegal, AreBelow, after, is_full}
+use Rattle.gw_pool.specs.History.{IsLegal, AreBelow, after, refuses}
 use Rattle.gw_pool.specs.Shelf.{LeavesTaken}
 use Rattle.gw_pool.specs.Tokens.{TokensView, change, ticket_of, has_ticket, has_dial, has_lease, with_dial, without_dial, without_ticket, leased, without_lease}
 use Rattle.gw_pool.specs.Core.{CoreView, Enters, Started, Done, DonePut, CancelDone, IsBack, IdleTaken as CoreIdle, IdleNot as CoreNot, IdleDone, state_at, WantMade as CoreMade, WantExpired as CoreExpired, AskTaken as CoreTaken}
@@ -419,10 +419,10 @@ want_expired link core core' t n host now conn h m = record {
   leaves = record { out = refl; waits = refl };
 }
 
-full_after : (core core' : CoreView) → core' ≡ core → is_full core.limits core.journal ≡ true → is_full core'.limits core'.journal ≡ true
+full_after : (core core' : CoreView) → core' ≡ core → refuses core.limits core.journal ≡ true → refuses core'.limits core'.journal ≡ true
 full_after core core' e f = rw e f
 
-pub want_full : (core core' : CoreView) (t : TokensView) (n : ℕ) → SoloHolds core t → core' ≡ core → is_full core.limits core.journal ≡ true → lent.WantFull (lent_of core t n) (lent_of core' t n)
+pub want_full : (core core' : CoreView) (t : TokensView) (n : ℕ) → SoloHolds core t → core' ≡ core → refuses core.limits core.journal ≡ true → lent.WantFull (lent_of core t n) (lent_of core' t n)
 want_full core core' t n h e f = record {
   others = [];
   looks = looks core core' t t n n h (ap (λ c. c.limits) e) (ap (λ c. c.journal) e);

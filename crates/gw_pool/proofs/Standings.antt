@@ -19,9 +19,9 @@ use Rattle.gw_pool.specs.declared.entry.Reply.TheVariants as reply
 use Rattle.gw_pool.specs.Places.{is_granted}
 use Rattle.gw_pool.specs.State.{State, wants_it, is_with}
 use Rattle.gw_pool.specs.Machine.{Outcome, replied, cancel_row, Served, MayDial, NotServed, NotComing, standing, stands_as, stage_standing}
-use Rattle.gw_pool.specs.History.{IsLegal, after, is_full, room}
+use Rattle.gw_pool.specs.History.{IsLegal, after, refuses, room}
 use Rattle.gw_pool.specs.Rows.{state_of}
-use Rattle.gw_pool.specs.Shelf.{is_lent, is_taken, IsKept}
+use Rattle.gw_pool.specs.Shelf.{is_lent, is_among, IsKept}
 use Rattle.gw_pool.specs.Core.{CoreView, Holds, AskDone, Looks, CancelDone, DonePut, state_at}
 use Rattle.gw_pool.proofs.Edits.{found_passes}
 use Rattle.gw_pool.proofs.Shelves.{out_at}
@@ -59,10 +59,10 @@ looked link old new want ask.NotYet e l = (l, e)
 looked link old new want ask.Failed e l = (l, e)
 
 -- a connection that is out to a want that wasn't taken is there
-out_lent_not : (taken : List ℕ) (want caller : ℕ) (place : Place) → place ≡ Out want caller → is_taken want taken ≡ false → is_lent taken place ≡ false
+out_lent_not : (taken : List ℕ) (want caller : ℕ) (place : Place) → place ≡ Out want caller → is_among want taken ≡ false → is_lent taken place ≡ false
 out_lent_not taken want caller place e h = rw e h
 
-pub with_not_lent : (taken : List ℕ) (conns : List ConnRow) (want : ℕ) (row : ConnRow) → find (is_with want) conns ≡ Some row → is_taken want taken ≡ false → is_lent taken row.place ≡ false
+pub with_not_lent : (taken : List ℕ) (conns : List ConnRow) (want : ℕ) (row : ConnRow) → find (is_with want) conns ≡ Some row → is_among want taken ≡ false → is_lent taken row.place ≡ false
 with_not_lent taken conns want row f h = let out = out_at want row (found_passes (is_with want) conns row f) in out_lent_not taken want out.0 row.place out.1 h
 
 pub with_out : (conns : List ConnRow) (want : ℕ) (row : ConnRow) → find (is_with want) conns ≡ Some row → (caller : ℕ) × (row.place ≡ Out want caller)
@@ -102,12 +102,12 @@ unfolding cancel_row
 cancel_gone limits s row = gone_by limits s row (is_granted row.stage) _ _ refl
 
 -- the journal is full
-pub full_is : {C : Type 0} (rows : Rows C) (journal : Vec Entry Global) (n m : ℕ) → Holds rows journal → n ≡ length journal.items → m ≡ room (state_of rows) → rows.limits.journal < n + m + 6 → is_full rows.limits journal.items ≡ true
-unfolding is_full
+pub full_is : {C : Type 0} (rows : Rows C) (journal : Vec Entry Global) (n m : ℕ) → Holds rows journal → n ≡ length journal.items → m ≡ room (state_of rows) → rows.limits.journal < n + m + 6 → refuses rows.limits journal.items ≡ true
+unfolding refuses
 full_is rows journal n m h e f l = lt-ltb rows.limits.journal (length journal.items + room (after rows.limits journal.items) + 6) (omega (arith, ap (λ s. room s) h.state))
 
-pub full_not : {C : Type 0} (rows : Rows C) (journal : Vec Entry Global) (n m : ℕ) → Holds rows journal → n ≡ length journal.items → m ≡ room (state_of rows) → n + m + 6 ≤ rows.limits.journal → is_full rows.limits journal.items ≡ false
-unfolding is_full
+pub full_not : {C : Type 0} (rows : Rows C) (journal : Vec Entry Global) (n m : ℕ) → Holds rows journal → n ≡ length journal.items → m ≡ room (state_of rows) → n + m + 6 ≤ rows.limits.journal → refuses rows.limits journal.items ≡ false
+unfolding refuses
 full_not rows journal n m h e f l = le-ltb rows.limits.journal (length journal.items + room (after rows.limits journal.items) + 6) (omega (arith, ap (λ s. room s) h.state))
 
 -- an empty pool

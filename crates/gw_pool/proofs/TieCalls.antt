@@ -14,7 +14,7 @@ use Rattle.gw_pool.specs.declared.rows.DialRow.{DialRow}
 use Rattle.gw_pool.specs.Places.{is_granted, is_out_to}
 use Rattle.gw_pool.specs.State.{State, remove_first, wants_it, dials_for, is_with, has_number, take_oldest}
 use Rattle.gw_pool.specs.Machine.{start_row, dialed_row, failed_row, cancel_row, cancel_conn, back_row, drop_row}
-use Rattle.gw_pool.specs.Shelf.{is_taken, LeavesTaken, LeavesOthers}
+use Rattle.gw_pool.specs.Shelf.{is_among, LeavesTaken, LeavesOthers}
 use Rattle.gw_pool.specs.Tokens.{names, is_held, change, holds, has_ticket, has_dial, has_lease, with_dial, without_dial, without_ticket, leased, without_lease}
 use Rattle.gw_pool.proofs.Edits.{found_passes}
 use Rattle.gw_pool.proofs.Room.{removed}
@@ -108,8 +108,8 @@ tie_kept : (s t : State) (out : List Holding) (taken taken' : List ℕ) (w : ℕ
     → weight (occ_of w) t ≤ bit (f h).ticket + bit (f h).lease
     → dials_of w t.dials ≡ bit (f h).dial
     → ((v : ℕ) → (v ≡ w → ⊥) → dials_of v t.dials ≡ dials_of v s.dials)
-    → ((f h).ticket ≡ true → is_taken w taken' ≡ false)
-    → ((v : ℕ) → (v ≡ w → ⊥) → is_taken v taken ≡ false → is_taken v taken' ≡ false)
+    → ((f h).ticket ≡ true → is_among w taken' ≡ false)
+    → ((v : ℕ) → (v ≡ w → ⊥) → is_among v taken ≡ false → is_among v taken' ≡ false)
     → Tied t (change w f out) taken'
 tie_kept s t out taken taken' w h f r k e m heldw dialsw dialsv untakenw takenv =
     tie s t out (change w f out) taken taken' w h (kept (f h)) k e m (changed w f out h r k.once e)
@@ -122,10 +122,10 @@ held_row s out taken w h k e = let l = k.held w in rw e at l
 dials_row : (s : State) (out : List Holding) (taken : List ℕ) (w : ℕ) (h : Holding) → Tied s out taken → find (names w) out ≡ Some h → dials_of w s.dials ≡ bit h.dial
 dials_row s out taken w h k e = let l = k.dials w in rw e at l
 
-untaken_row : (s : State) (out : List Holding) (taken : List ℕ) (w : ℕ) (h : Holding) → Tied s out taken → find (names w) out ≡ Some h → h.ticket ≡ true → is_taken w taken ≡ false
+untaken_row : (s : State) (out : List Holding) (taken : List ℕ) (w : ℕ) (h : Holding) → Tied s out taken → find (names w) out ≡ Some h → h.ticket ≡ true → is_among w taken ≡ false
 untaken_row s out taken w h k e t = let l = k.untaken w in (rw e at l) t
 
-pub ticket_untaken : (s : State) (out : List Holding) (taken : List ℕ) (w : ℕ) → Tied s out taken → has_ticket w out ≡ true → is_taken w taken ≡ false
+pub ticket_untaken : (s : State) (out : List Holding) (taken : List ℕ) (w : ℕ) → Tied s out taken → has_ticket w out ≡ true → is_among w taken ≡ false
 ticket_untaken s out taken w k h = k.untaken w h
 
 pub stage_one : (w : ℕ) (stage : Stage) (n : ℕ) → n ≡ w → stage_weight (occ_of w) stage n ≡ 1

@@ -16,7 +16,7 @@ use Rattle.gw_pool.specs.Core.{IsMade, IsQuiet}
 use Rattle.gw_pool.specs.Places.{since_of, is_out_to, is_idle}
 use Rattle.gw_pool.specs.State.{State, rests, remove_first, is_free, is_expired, newest_stamp, take_newest, take_stamped_for, is_with, has_number}
 use Rattle.gw_pool.specs.Machine.{Outcome, want_new, want_idle, want_by, want_step, units, distinct, out_want}
-use Rattle.gw_pool.specs.Shelf.{is_taken, LeavesTaken}
+use Rattle.gw_pool.specs.Shelf.{is_among, LeavesTaken}
 use Rattle.gw_pool.specs.Tokens.{names, ticket_of, has_ticket, has_dial, has_lease}
 use Rattle.gw_pool.proofs.Room.{removed_length, Among}
 use Rattle.gw_pool.proofs.Owns.{want_owns, found_among}
@@ -169,7 +169,7 @@ tie_made limits s out taken taken' host now v k m tk =
       ];
       taken_new = λ u l. (let above : w + 1 ≤ u = rw next at l in tk u (k.taken_new u (omega (arith, above))));
       untaken = λ u. elim (decide u w) [
-        | inl e ↦ (λ h. let Q : ℕ → Type 0 = λ n. is_taken n taken' ≡ false in subst Q (sym e) (tk w (k.taken_new w (omega arith))))
+        | inl e ↦ (λ h. let Q : ℕ → Type 0 = λ n. is_among n taken' ≡ false in subst Q (sym e) (tk w (k.taken_new w (omega arith))))
         | inr n ↦ (λ h. tk u (k.untaken u (rw (find_push_other u w out n) at h)))
       ];
     })

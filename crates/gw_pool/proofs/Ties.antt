@@ -5,7 +5,7 @@ use Rattle.std.specs.List.{find, sum_by}
 use Rattle.std.proofs.lemmas.List.Sums.{sum_by-cons}
 use Rattle.gw_pool.specs.declared.holding.Holding.{Holding}
 use Rattle.gw_pool.specs.State.{State}
-use Rattle.gw_pool.specs.Shelf.{is_taken}
+use Rattle.gw_pool.specs.Shelf.{is_among}
 use Rattle.gw_pool.specs.Tokens.{names, is_held, change, holds, has_ticket, has_dial, has_lease}
 pub use Rattle.gw_pool.specs.Ties.{one, bit, occ_of, dia_of, con_of, dials_of, Tied, SoloHolds}
 use Rattle.gw_pool.proofs.Owns.{Owns}
@@ -47,8 +47,8 @@ pub tie : (s t : State) (out out' : List Holding) (taken taken' : List ℕ) (w :
     → weight (occ_of w) t ≤ bit (holds (λ x. x.ticket) now) + bit (holds (λ x. x.lease) now)
     → dials_of w t.dials ≡ bit (holds (λ x. x.dial) now)
     → ((v : ℕ) → (v ≡ w → ⊥) → dials_of v t.dials ≡ dials_of v s.dials)
-    → (holds (λ x. x.ticket) now ≡ true → is_taken w taken' ≡ false)
-    → ((v : ℕ) → (v ≡ w → ⊥) → is_taken v taken ≡ false → is_taken v taken' ≡ false)
+    → (holds (λ x. x.ticket) now ≡ true → is_among w taken' ≡ false)
+    → ((v : ℕ) → (v ≡ w → ⊥) → is_among v taken ≡ false → is_among v taken' ≡ false)
     → Tied t out' taken'
 tie s t out out' taken taken' w h now k f m a heldw dialsw dialsv untakenw takenv =
     let below : (v : ℕ) → t.next_want ≤ v → v ≡ w → ⊥ = λ v l e. named_below s out v w h (k.out_new v (rw m.next_want at l)) e f in
@@ -72,7 +72,7 @@ tie s t out out' taken taken' w h now k f m a heldw dialsw dialsv untakenw taken
         | inr n ↦ rw (a.others v n) (dialsv v n ∙ k.dials v)
       ];
       untaken = λ v. elim (decide v w) [
-        | inl e ↦ (let P : ℕ → Type 0 = λ n. has_ticket n out' ≡ true → is_taken n taken' ≡ false in subst P (sym e) (λ tk. untakenw (rw a.here at tk)))
+        | inl e ↦ (let P : ℕ → Type 0 = λ n. has_ticket n out' ≡ true → is_among n taken' ≡ false in subst P (sym e) (λ tk. untakenw (rw a.here at tk)))
         | inr n ↦ λ tk. takenv v n (k.untaken v (rw (a.others v n) at tk))
       ];
     }

@@ -10,7 +10,7 @@ use Rattle.gw_pool.specs.declared.entry.Offer.TheVariants as offer
 use Rattle.gw_pool.specs.State.{State, empty, used, is_free, is_expired, least_want, least_waiting, newest_stamp, take_newest, oldest_stamp, take_oldest}
 use Rattle.gw_pool.specs.Offer.{grant_to, grant, evict, rest, freed, offer_to, offer_conn}
 use Rattle.gw_pool.specs.Machine.{step, units, want_new, want_idle, want_by, want_step, start_row, start_by, dialed_conn, dialed_to, dialed_row, dialed_by, failed_to, failed_row, failed_by, cancel_row, cancel_conn, cancel_out, cancel_by, back_row, back_by, drop_row, drop_by, expire_by, close_idle_by}
-use Rattle.gw_pool.specs.History.{reply_of, state_of, IsLegal, moved, after, room, is_full}
+use Rattle.gw_pool.specs.History.{reply_of, state_of, IsLegal, moved, after, room, refuses}
 
 abbrev answers : Limits → State → List (ℕ × Call) → List (Option Reply)
 answers limits s [] = []
@@ -101,6 +101,6 @@ four_exchanges =
 small : Limits
 small = record { idle_total = 100; idle_per_host = 2; conns_per_host = 0; idle_ms = 90000; journal = 16; passes = 1; per_pass = 1; hosts = 1 }
 
-full_journal : (IsLegal small four_exchanges) × (is_full small four_exchanges ≡ true) × (is_full small (take 8 four_exchanges) ≡ false)
-unfolding used is_free is_expired least_want least_waiting newest_stamp take_newest oldest_stamp take_oldest grant_to grant evict rest freed offer_to offer_conn step units want_new want_idle want_by want_step start_row start_by dialed_conn dialed_to dialed_row dialed_by failed_to failed_row failed_by cancel_row cancel_conn cancel_out cancel_by back_row back_by drop_row drop_by expire_by close_idle_by entry four_exchanges small IsLegal moved after is_full room
+full_journal : (IsLegal small four_exchanges) × (refuses small four_exchanges ≡ true) × (refuses small (take 8 four_exchanges) ≡ false)
+unfolding used is_free is_expired least_want least_waiting newest_stamp take_newest oldest_stamp take_oldest grant_to grant evict rest freed offer_to offer_conn step units want_new want_idle want_by want_step start_row start_by dialed_conn dialed_to dialed_row dialed_by failed_to failed_row failed_by cancel_row cancel_conn cancel_out cancel_by back_row back_by drop_row drop_by expire_by close_idle_by entry four_exchanges small IsLegal moved after refuses room
 full_journal = ((refl, (refl, (refl, (refl, (refl, (refl, (refl, (refl, (refl, (refl, tt)))))))))), refl, refl)

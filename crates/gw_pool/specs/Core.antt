@@ -18,7 +18,7 @@ use Rattle.gw_pool.specs.declared.answers.CoreAsk.TheVariants as ask
 use Rattle.gw_pool.specs.Closes.{IsOf, Closes}
 use Rattle.gw_pool.specs.State.{State, rests}
 use Rattle.gw_pool.specs.Machine.{Outcome, step, Standing, Served, MayDial, NotServed, NotComing, standing}
-use Rattle.gw_pool.specs.History.{IsLegal, after, is_full, room}
+use Rattle.gw_pool.specs.History.{IsLegal, after, refuses, room}
 use Rattle.gw_pool.specs.Rows.{state_of}
 use Rattle.gw_pool.specs.Shelf.{LeavesTaken, LeavesOthers}
 
@@ -66,19 +66,19 @@ IsMade made _ = ⊥
 pub record WantMade (old new : CoreView) (caller host now made : ℕ) : Type 0 where
   pub outcome : Outcome
   pub enters : Enters old new caller (call.Want host now) outcome
-  pub has_room : is_full old.limits old.journal ≡ false
+  pub has_room : refuses old.limits old.journal ≡ false
   pub is_made : IsMade made outcome.reply
 
 pub record WantExpired {C : Type 0} (link : C → LinkView) (old new : CoreView) (caller host now : ℕ) (conn : C) : Type 0 where
   pub outcome : Outcome
   pub enters : Enters old new caller (call.Want host now) outcome
-  pub has_room : is_full old.limits old.journal ≡ false
+  pub has_room : refuses old.limits old.journal ≡ false
   pub close : IsOf link conn outcome.gone
 
 abbrev pub WantDone : {C : Type 0} → (C → LinkView) → CoreView → CoreView → ℕ → ℕ → ℕ → CoreWant C → Type 0
 WantDone link old new caller host now (want.Made made) = WantMade old new caller host now made
 WantDone link old new caller host now (want.Expired conn) = WantExpired link old new caller host now conn
-WantDone link old new caller host now want.JournalFull = (new ≡ old) × (is_full old.limits old.journal ≡ true)
+WantDone link old new caller host now want.JournalFull = (new ≡ old) × (refuses old.limits old.journal ≡ true)
 
 pub record AskTaken {C : Type 0} (link : C → LinkView) (old new : CoreView) (wanted : ℕ) (conn : C) (number : ℕ) (reused : Bool) (host : ℕ) : Type 0 where
   pub row : ConnRow

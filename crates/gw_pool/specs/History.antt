@@ -47,5 +47,5 @@ unfoldable pub room : State → ℕ
 room s = sum_by (λ row. want_room row.stage) s.wants + 3 * length s.dials + sum_by (λ row. conn_room row.place) s.conns
 
 -- whether a further want could leave less room in the journal than the rows need
-unfoldable pub is_full : Limits → List Entry → Bool
-is_full limits history = nat_lt limits.journal (length history + room (after limits history) + 6)
+unfoldable pub refuses : Limits → List Entry → Bool
+refuses limits history = nat_lt limits.journal (length history + room (after limits history) + 6)

@@ -14,7 +14,7 @@ use Rattle.gw_pool.specs.declared.rows.ConnRow.{ConnRow}
 use Rattle.gw_pool.specs.Places.{is_out_to}
 use Rattle.gw_pool.specs.State.{State, used, is_free, rests, rests_for, wants_host, waits_for, wants_it, dials_for, has_number, is_with}
 use Rattle.gw_pool.specs.Ties.{Among}
-use Rattle.gw_pool.specs.History.{IsLegal, after, room, is_full}
+use Rattle.gw_pool.specs.History.{IsLegal, after, room, refuses}
 
 -- which want an offer served, and which want the place went to that an entry freed
 abbrev pub offered_to : Offer → Option ℕ
@@ -236,7 +236,7 @@ makes_want _ = false
 abbrev pub NeverFull : Limits → List Entry → Type 0
 NeverFull limits history =
     (before later : List Entry) (entry : Entry)
-    → history ≡ before ++ entry ∷ later → makes_want entry.call ≡ true → is_full limits before ≡ false
+    → history ≡ before ++ entry ∷ later → makes_want entry.call ≡ true → refuses limits before ≡ false
 
 abbrev pub JournalHasRoom : Type 0
 JournalHasRoom =

@@ -1,5 +1,6 @@
 -- The pool as one caller sees it: what contracts see of it, and what its calls do.
-use Rattle.std.specs.Prelude.{◌≡◌, ℕ, true, false, List, [], ◌∷◌, ◌++◌, ◌+◌, ◌-◌, ◌^◌, min, find, Option, Some, None}
+use Rattle.std.specs.Prelude.{◌≡◌, ℕ, ◌<◌, Bool, true, false, List, [], ◌∷◌, ◌++◌, ◌+◌, ◌-◌, ◌^◌, min, find, Option, Some, None}
+use Rattle.std.specs.List.{list_all}
 use Rattle.gw_wire.specs.Link.{LinkView}
 use Rattle.gw_pool.specs.declared.limits.Limits.{Limits}
 use Rattle.gw_pool.specs.declared.entry.Entry.{Entry}
@@ -22,12 +23,16 @@ use Rattle.gw_pool.specs.declared.leases.Put.{Put}
 use Rattle.gw_pool.specs.declared.holding.Holding.{Holding}
 use Rattle.gw_pool.specs.Closes.{IsOf, Closes}
 use Rattle.gw_pool.specs.State.{State, has_number}
-use Rattle.gw_pool.specs.Tokens.{has_lease, change, ticket_of, with_dial, without_dial, without_ticket, leased, without_lease}
-use Rattle.gw_pool.specs.Machine.{Outcome, step, Standing, Served, MayDial, NotServed, NotComing, standing}
-use Rattle.gw_pool.specs.History.{IsLegal, AreBelow, after, mine, is_full}
+use Rattle.gw_pool.specs.Shelf.{is_among}
+use Rattle.gw_pool.specs.Tokens.{names, has_lease, change, ticket_of, with_dial, without_dial, without_ticket, leased, without_lease}
+use Rattle.gw_pool.specs.Machine.{Outcome, step, units, Standing, Served, MayDial, NotServed, NotComing, standing}
+use Rattle.gw_pool.specs.History.{IsLegal, AreBelow, after, mine, refuses}
 
--- what contracts see of it: `seen` is the history that the caller knows, `mine` its own entries in it, `out` the wants
--- whose tokens were handed out and not taken back
+-- What contracts see of it: `seen` is the history that the caller knows, `mine` its own entries in it, `out` the wants
+-- whose tokens were handed out and not taken back, `waits` how often it was told to wait, `fresh` the wants that were
+-- made since it last took in what another caller knew. `audit_failed` is how often the audit sink refused a want or the
+-- text's end, and `ended` whether the audit text was ended, behind which no call may follow: 0 and false where there is no
+-- audit.
 pub record Lent : Type 0 where
   pub limits : Limits
   pub number : ℕ
@@ -35,15 +40,29 @@ pub record Lent : Type 0 where
   pub mine : List Entry
   pub out : List Holding
   pub waits : ℕ
+  pub fresh : List ℕ
+  pub audit_failed : ℕ
+  pub ended : Bool
 
--- What stays in every call: the limits and the caller's number. What the caller knew before, it knows still: since
--- then other callers made the entries `others`, and none else. What it knows is legal and of the pool's callers.
+-- each unit of the caller is a want that its tokens name
+abbrev pub AreNamed : Lent → Type 0
+AreNamed lent = (want : ℕ) → is_among want (units (after lent.limits lent.seen) lent.number) ≡ true → find (names want) lent.out ≡ None → ⊥
+
+-- What stays in every call: the limits, under which each caller may have a want, the caller's number, and whether the
+-- audit text was ended. What the caller knew before, it knows still: since then other callers made the entries `others`,
+-- and none else. What it knows is legal and of the pool's callers, its own entries in it are `mine`, and its tokens name
+-- its units.
 pub record Meets (old new : Lent) (others : List Entry) : Type 0 where
   pub limits : new.limits ≡ old.limits
+  pub few : 0 < new.limits.per_pass
   pub number : new.number ≡ old.number
   pub foreign : mine others old.number ≡ []
   pub legal : IsLegal new.limits new.seen
   pub callers : AreBelow new.limits.passes new.seen
+  pub own : mine new.seen new.number ≡ new.mine
+  pub named : AreNamed new
+  pub fresh : (want : ℕ) → is_among want old.fresh ≡ true → is_among want new.fresh ≡ true
+  pub ended : new.ended ≡ old.ended
 
 -- the history that a call meets, and the state there
 abbrev pub met : Lent → List Entry → List Entry
@@ -69,10 +88,11 @@ pub record Looks (old new : Lent) (others : List Entry) : Type 0 where
   pub seen : new.seen ≡ met old others
   pub mine : new.mine ≡ old.mine
 
--- what a call does to the tokens that are out, and to the count of waits
+-- what a call does to the tokens that are out, and to the count of waits; the audit sink refused nothing
 pub record Leaves (old new : Lent) (tokens : List Holding) (count : ℕ) : Type 0 where
   pub out : new.out ≡ tokens
   pub waits : new.waits ≡ count
+  pub audit_failed : new.audit_failed ≡ old.audit_failed
 
 -- the reply of a want that was made
 abbrev pub IsMade : ℕ → Reply → Type 0
@@ -85,23 +105,24 @@ pub record WantMade (old new : Lent) (host now : ℕ) (t : Ticket) : Type 0 wher
   pub others : List Entry
   pub outcome : Outcome
   pub calls : Calls old new others (call.Want host now) outcome
-  pub room : is_full old.limits (met old others) ≡ false
+  pub room : refuses old.limits (met old others) ≡ false
   pub made : IsMade t.want outcome.reply
   pub names : t.host ≡ host
+  pub fresh : is_among t.want new.fresh ≡ true
   pub leaves : Leaves old new (old.out ++ ticket_of t.want ∷ []) old.waits
 
 pub record WantExpired {C : Type 0} (link : C → LinkView) (old new : Lent) (host now : ℕ) (conn : C) : Type 0 where
   pub others : List Entry
   pub outcome : Outcome
   pub calls : Calls old new others (call.Want host now) outcome
-  pub room : is_full old.limits (met old others) ≡ false
+  pub room : refuses old.limits (met old others) ≡ false
   pub close : IsOf link conn outcome.gone
   pub leaves : Leaves old new old.out old.waits
 
 pub record WantFull (old new : Lent) : Type 0 where
   pub others : List Entry
   pub looks : Looks old new others
-  pub full : is_full new.limits new.seen ≡ true
+  pub full : refuses new.limits new.seen ≡ true
   pub leaves : Leaves old new old.out old.waits
 
 abbrev pub WantStep : {C : Type 0} → (C → LinkView) → Lent → Lent → ℕ → ℕ → Want C → Type 0
@@ -133,10 +154,12 @@ pub record AskGranted (old new : Lent) (t back : Ticket) : Type 0 where
   pub same : back ≡ t
   pub leaves : Leaves old new old.out old.waits
 
+-- The want isn't served yet: that is said of one that the caller made since it last took in what another knew, and while
+-- no token of another want is out.
 pub record AskNotYet (old new : Lent) (t back : Ticket) : Type 0 where
   pub others : List Entry
   pub looks : Looks old new others
-  pub stands : standing (met_state old others) t.want ≡ NotServed
+  pub stands : is_among t.want old.fresh ≡ true → list_all (names t.want) old.out ≡ true → standing (met_state old others) t.want ≡ NotServed
   pub same : back ≡ t
   pub leaves : Leaves old new old.out (min (old.waits + 1) (2 ^ 64 - 1))
 
@@ -151,6 +174,13 @@ AskStep link old new t (ask.Taken l) = AskTaken link old new t l
 AskStep link old new t (ask.Granted back) = AskGranted old new t back
 AskStep link old new t (ask.NotYet back) = AskNotYet old new t back
 AskStep link old new t ask.Failed = AskFailed old new t
+
+-- the exact clause of one that asks the pool itself: whatever want it is, it isn't served yet where the answer says so
+abbrev pub LooksAtRows : {C : Type 0} → Lent → Ticket → Ask C → Type 0
+LooksAtRows new t (ask.Taken l) = Unit {0}
+LooksAtRows new t (ask.Granted back) = Unit {0}
+LooksAtRows new t (ask.NotYet back) = standing (after new.limits new.seen) t.want ≡ NotServed
+LooksAtRows new t ask.Failed = Unit {0}
 
 pub record StartGo (old new : Lent) (t : Ticket) (d : DialToken) : Type 0 where
   pub others : List Entry

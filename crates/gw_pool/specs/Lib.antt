@@ -12,3 +12,7 @@ pub mod Core
 pub mod Tokens
 pub mod Ties
 pub mod Laws
+pub mod Owner
+pub mod Keeps
+pub mod Gone
+pub mod Moments

@@ -14,12 +14,12 @@ pub record ShelfView : Type 0 where
   pub taken : List ℕ
   pub room : ℕ
 
-abbrev pub is_taken : ℕ → List ℕ → Bool
-is_taken want taken = list_any (λ w. w == want) taken
+abbrev pub is_among : ℕ → List ℕ → Bool
+is_among want taken = list_any (λ w. w == want) taken
 
 -- whether the connection at a place was handed out
 abbrev pub is_lent : List ℕ → Place → Bool
-is_lent taken (Out want caller) = is_taken want taken
+is_lent taken (Out want caller) = is_among want taken
 is_lent taken (Idle stamp since) = false
 
 abbrev pub lent_to : Place → List ℕ
@@ -59,8 +59,8 @@ row_of shelved = option_map (λ s. s.row) shelved
 
 -- nothing was handed out since
 abbrev pub LeavesTaken : List ℕ → List ℕ → Type 0
-LeavesTaken old new = (want : ℕ) → is_taken want old ≡ false → is_taken want new ≡ false
+LeavesTaken old new = (want : ℕ) → is_among want old ≡ false → is_among want new ≡ false
 
 -- nothing was handed out since but to one want
 abbrev pub LeavesOthers : ℕ → List ℕ → List ℕ → Type 0
-LeavesOthers taker old new = (want : ℕ) → (want ≡ taker → ⊥) → is_taken want old ≡ false → is_taken want new ≡ false
+LeavesOthers taker old new = (want : ℕ) → (want ≡ taker → ⊥) → is_among want old ≡ false → is_among want new ≡ false

@@ -10,8 +10,8 @@ use Rattle.gw_pool.specs.declared.rows.WantRow.{WantRow}
 use Rattle.gw_pool.specs.declared.rows.ConnRow.{ConnRow}
 use Rattle.gw_pool.specs.declared.rows.DialRow.{DialRow}
 use Rattle.gw_pool.specs.State.{State}
-use Rattle.gw_pool.specs.History.{IsLegal, AreBelow, after}
-use Rattle.gw_pool.specs.Shelf.{is_taken}
+use Rattle.gw_pool.specs.History.{IsLegal, AreBelow, after, mine}
+use Rattle.gw_pool.specs.Shelf.{is_among}
 use Rattle.gw_pool.specs.Core.{CoreView}
 use Rattle.gw_pool.specs.Tokens.{TokensView, names, has_ticket, has_dial, has_lease}
 
@@ -102,13 +102,15 @@ pub record Tied (s : State) (out : List Holding) (taken : List ℕ) : Type 0 whe
   pub once : (w : ℕ) → sum_by (λ (h : Holding). one w h.want) out ≤ 1
   pub held : (w : ℕ) → weight (occ_of w) s ≤ bit (has_ticket w out) + bit (has_lease w out)
   pub dials : (w : ℕ) → dials_of w s.dials ≡ bit (has_dial w out)
-  pub untaken : (w : ℕ) → has_ticket w out ≡ true → is_taken w taken ≡ false
-  pub taken_new : (w : ℕ) → s.next_want ≤ w → is_taken w taken ≡ false
+  pub untaken : (w : ℕ) → has_ticket w out ≡ true → is_among w taken ≡ false
+  pub taken_new : (w : ℕ) → s.next_want ≤ w → is_among w taken ≡ false
 
 -- what stays true of a pool with one caller
 pub record SoloHolds (core : CoreView) (tokens : TokensView) : Type 0 where
   pub tied : Tied (after core.limits core.journal) tokens.out core.taken
   pub legal : IsLegal core.limits core.journal
   pub passes : 0 < core.limits.passes
+  pub few : 0 < core.limits.per_pass
+  pub mine : mine core.journal 0 ≡ core.journal
   pub callers : AreBelow core.limits.passes core.journal
   pub room : core.limits.per_pass ≤ tokens.room

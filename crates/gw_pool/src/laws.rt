@@ -1,4 +1,5 @@
 //! Laws of legal histories. Each is a function with an empty body, whose `ensures` is the law.
+ghost use Rattle.gw_pool.specs.Keeps.{DialedWantsAreServed, DialsStay, EndedWantsStay, FailedDialsEnd, LeasesStay, MadeWantsStand, StartedWantsDial, WantsGoOn};
 ghost use Rattle.gw_pool.specs.Laws.{ConnsAreTakenBack, DialedConnsAreSomewhere, EndedWantsHaveNoRow, IdleAreLimited, IdleForHostAreLimited, JournalHasRoom, NoPlaceIsFreeWhereOneWaits, NoneIsIdleWhereOneIsWanted, OffersFindWants, OffersGoToLeast, OutConnsStay, PlacesAreLimited, PlacesGoToLeast, WantsAreServedOnce};
 
 /// The journal and all entries that its rows can still make fit into its limit, where no want was made at a full
@@ -45,4 +46,27 @@ pub fn connections_are_taken_back()
 /// evicted by that entry.
 pub fn dialed_connections_are_somewhere()
     ensures { DialedConnsAreSomewhere }
+{}
+
+/// A connection that is out to a caller stays so while no entry of that caller takes it back, whatever others enter. So a
+/// lease can always be given back or dropped.
+pub fn leases_stay()
+    ensures { LeasesStay }
+{}
+
+/// Whatever others enter, a want of a caller has its row still, which may be granted where it waited, or is served, and a
+/// dial of a caller goes on. A want that ended stays so.
+pub fn wants_go_on()
+    ensures wants { WantsGoOn }
+    ensures dials { DialsStay }
+    ensures ended { EndedWantsStay }
+{}
+
+/// How a want stands behind an entry of its own caller: where it was made, where its dial began, where that gave a
+/// connection, and where it failed.
+pub fn wants_stand()
+    ensures made { MadeWantsStand }
+    ensures started { StartedWantsDial }
+    ensures dialed { DialedWantsAreServed }
+    ensures failed { FailedDialsEnd }
 {}

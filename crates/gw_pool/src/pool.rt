@@ -4,7 +4,7 @@ ghost use Rattle.std.specs.Prelude.{◌++◌, ◌∷◌, vec_len, vec_capacity, 
 ghost use Rattle.gw_pool.specs.declared.entry.Call.TheVariants as call;
 ghost use Rattle.gw_pool.specs.State.{wants_it, is_with, dials_for, has_number};
 ghost use Rattle.gw_pool.specs.Idle.{idle_links};
-ghost use Rattle.gw_pool.specs.Shelf.{is_taken};
+ghost use Rattle.gw_pool.specs.Shelf.{is_among};
 ghost use Rattle.gw_pool.specs.Machine.{units, standing};
 ghost use Rattle.gw_pool.specs.Core.{CoreView, state_at, WantDone, AskDone, StartDone, Done as DoneBy, DonePut, CancelDone, Looks, IsOut, IsBack, IdleDone, IsQuiet, entry_of};
 
@@ -92,7 +92,7 @@ impl<C: Link> PoolCore<C> {
 
     /// How a want stands. A connection that is out to it is handed out. Nothing is entered.
     pub fn ask(&mut self, want: u64) -> CoreAsk<C>
-        requires { is_taken want self.old.taken ≡ false }
+        requires { is_among want self.old.taken ≡ false }
         ensures { AskDone C.link self.old self.new want result }
     {
         if let Some(Shelved { row, conn }) = self.rows.conns.lend(want) {
@@ -123,7 +123,7 @@ impl<C: Link> PoolCore<C> {
 
     /// Begins the dial of a want that may dial; false where it may not, and nothing is entered then.
     pub fn start(&mut self, want: u64) -> bool
-        requires { is_taken want self.old.taken ≡ false }
+        requires { is_among want self.old.taken ≡ false }
         ensures { StartDone self.old self.new want result }
     {
         match find_want(self.rows.wants.as_slice(), want) {
@@ -188,7 +188,7 @@ impl<C: Link> PoolCore<C> {
     /// A want whose connection wasn't handed out is given up. For one whose own dial failed before it was served
     /// nothing is entered.
     pub fn cancel(&mut self, want: u64, now: u64) -> Put<C>
-        requires { is_taken want self.old.taken ≡ false }
+        requires { is_among want self.old.taken ≡ false }
         ensures { CancelDone C.link self.old self.new want now result.close (standing (state_at self.old) want) }
     {
         match find_want(self.rows.wants.as_slice(), want) {
@@ -208,7 +208,7 @@ impl<C: Link> PoolCore<C> {
 
     /// A want that has no row but may have a connection, which wasn't handed out, is given up.
     fn cancel_conn(&mut self, want: u64, now: u64) -> Put<C>
-        requires kept { is_taken want self.old.taken ≡ false }
+        requires kept { is_among want self.old.taken ≡ false }
         requires none { find (wants_it want) (state_at self.old).wants ≡ None }
         ensures { CancelDone C.link self.old self.new want now result.close (standing (state_at self.old) want) }
     {

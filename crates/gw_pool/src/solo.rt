@@ -1,9 +1,10 @@
 //! The pool of a gateway with one caller.
 
-ghost use Rattle.std.specs.Prelude.{◌≡◌, ◌<◌, [], map, IfOk, IfErr};
+ghost use Rattle.std.specs.Prelude.{◌≡◌, ◌<◌, [], true, false, map, IfOk, IfErr};
 ghost use Rattle.gw_pool.specs.History.{IsLegal, AreBelow};
 ghost use Rattle.gw_pool.specs.Idle.{idle_links};
-ghost use Rattle.gw_pool.specs.Lent.{LeaseOf, BackStep, DropStep};
+ghost use Rattle.gw_pool.specs.Lent.{LeaseOf, AskStep, BackStep, DropStep, LooksAtRows};
+ghost use Rattle.gw_pool.specs.Tokens.{has_ticket};
 
 use crate::answers::{Closed, CoreAsk, CoreWant};
 use crate::holding::{Holding, Tokens};
@@ -23,12 +24,14 @@ pub struct Solo<C: Link> {
 }
 
 impl<C: Link> Model for Solo<C> {
+    ghost use Rattle.std.specs.Prelude.{false};
     ghost use Rattle.gw_pool.specs.Lent.{Lent};
+    ghost use Rattle.gw_pool.specs.Owner.{made_in};
     ghost use Rattle.gw_pool.specs.Ties.{SoloHolds};
 
     ghost Value = { Lent };
 
-    ghost view = { λ s. record { limits = s.core.limits; number = 0; seen = s.core.journal; mine = s.core.journal; out = s.out.out; waits = s.waits } };
+    ghost view = { λ s. record { limits = s.core.limits; number = 0; seen = s.core.journal; mine = s.core.journal; out = s.out.out; waits = s.waits; fresh = made_in s.core.journal; audit_failed = 0; ended = false } };
 
     ghost invariant = { λ s. SoloHolds s.core s.out };
 }
@@ -44,6 +47,9 @@ impl<C: Link> Solo<C> {
         ensures mine { IfOk result (λ s. s.mine ≡ []) }
         ensures out { IfOk result (λ s. s.out ≡ []) }
         ensures waits { IfOk result (λ s. s.waits ≡ 0) }
+        ensures fresh { IfOk result (λ s. s.fresh ≡ []) }
+        ensures audit { IfOk result (λ s. s.audit_failed ≡ 0) }
+        ensures running { IfOk result (λ s. s.ended ≡ false) }
     {
         let core = PoolCore::open(alloc, limits)?;
         let out = Tokens::new(alloc, limits.per_pass as usize)?;
@@ -76,6 +82,10 @@ impl<C: Link> Solo<C> {
 impl<C: Link> Leases<C> for Solo<C> {
     ghost lent = { λ s. s };
 
+    ghost Keeper = { Unit {0} };
+
+    ghost keeper = { λ _. tt };
+
     fn want(&mut self, host: u32, now: u64) -> Want<C> {
         match self.core.want(0, host, now) {
             CoreWant::Made(want) => {
@@ -87,7 +97,13 @@ impl<C: Link> Leases<C> for Solo<C> {
         }
     }
 
-    fn ask(&mut self, t: Ticket) -> Ask<C> {
+    fn ask(&mut self, t: Ticket) -> Ask<C>
+        requires token { has_ticket t.want self.old.out ≡ true }
+        requires running { self.old.ended ≡ false }
+        ensures step { AskStep C.link self.old self.new t result }
+        ensures rows { LooksAtRows self.new t result }
+        ensures stays { Unit {0} }
+    {
         match self.core.ask(t.want) {
             CoreAsk::Taken(conn, no, reused, host) => {
                 let Ticket { want, host: _ } = t;
@@ -146,8 +162,10 @@ impl<C: Link> Leases<C> for Solo<C> {
     }
 
     fn give_back(&mut self, l: Lease<C>, now: u64) -> Put<C>
-        requires { LeaseOf C.link self.old l }
-        ensures { BackStep C.link self.old self.new l.no l.want now result }
+        requires lease { LeaseOf C.link self.old l }
+        requires running { self.old.ended ≡ false }
+        ensures step { BackStep C.link self.old self.new l.no l.want now result }
+        ensures stays { Unit {0} }
     {
         let Lease {
             conn,
@@ -162,9 +180,11 @@ impl<C: Link> Leases<C> for Solo<C> {
     }
 
     fn drop_conn(&mut self, l: Lease<C>) -> C
-        requires { LeaseOf C.link self.old l }
+        requires lease { LeaseOf C.link self.old l }
+        requires running { self.old.ended ≡ false }
         ensures conn { result ≡ l.conn }
         ensures step { DropStep self.old self.new l.no l.want }
+        ensures stays { Unit {0} }
     {
         let Lease {
             conn,

@@ -6,7 +6,7 @@ ghost use Rattle.gw_pool.specs.History.{IsLegal};
 ghost use Rattle.gw_pool.specs.Lent.{LeaseOf};
 ghost use Rattle.gw_pool.specs.Tokens.{ticket_of, leased};
 ghost use Rattle.gw_pool.specs.State.{wants_it, dials_for, has_number};
-ghost use Rattle.gw_pool.specs.Shelf.{is_taken, LeavesTaken, LeavesOthers};
+ghost use Rattle.gw_pool.specs.Shelf.{is_among, LeavesTaken, LeavesOthers};
 ghost use Rattle.gw_pool.specs.Machine.{units, want_step, start_row, dialed_row, back_row};
 ghost use Rattle.gw_pool.specs.Core.{state_at, IsBack};
 
@@ -266,7 +266,7 @@ fn made(core: &mut PoolCore<u64>, caller: u32) -> Result<u64, Fail>
 
 /// Begins the dial of a want.
 fn started(core: &mut PoolCore<u64>, want: u64) -> Result<(), Fail>
-    requires { is_taken want core.old.taken ≡ false }
+    requires { is_among want core.old.taken ≡ false }
     ensures limits { IfOk result (λ _. core.new.limits ≡ core.old.limits) }
     ensures state { IfOk result (λ _. ForSome (find (wants_it want) (state_at core.old).wants) (λ row. state_at core.new ≡ (start_row (state_at core.old) row).state)) }
     ensures taken { IfOk result (λ _. LeavesTaken core.old.taken core.new.taken) }
@@ -302,7 +302,7 @@ fn put_back(core: &mut PoolCore<u64>, no: u64, link: u64) -> Option<u64>
 
 /// How a want stands that has no connection.
 fn asked(core: &mut PoolCore<u64>, want: u64) -> Result<&'static str, Fail>
-    requires { is_taken want core.old.taken ≡ false }
+    requires { is_among want core.old.taken ≡ false }
     ensures { IfOk result (λ _. core.new ≡ core.old) }
 {
     match core.ask(want) {
@@ -315,7 +315,7 @@ fn asked(core: &mut PoolCore<u64>, want: u64) -> Result<&'static str, Fail>
 
 /// The connection that is handed out to a want: its link, its number, whether it served a want before, and its host.
 fn taken(core: &mut PoolCore<u64>, want: u64) -> Result<(u64, u64, bool, u32), Fail>
-    requires { is_taken want core.old.taken ≡ false }
+    requires { is_among want core.old.taken ≡ false }
     ensures limits { IfOk result (λ _. core.new.limits ≡ core.old.limits) }
     ensures state { IfOk result (λ _. state_at core.new ≡ state_at core.old) }
     ensures taken { IfOk result (λ _. LeavesOthers want core.old.taken core.new.taken) }

@@ -24,34 +24,6 @@ use Rattle.gw_turn.specs.Owner.{PlaceIs, Owned, IsOwned}
 use Rattle.gw_turn.specs.Tie.{Ties}
 use Rattle.gw_turn.proofs.Moving.{is_own}
 
--- rows that are found are their want's owner's
-pub want_caller : (by : ℕ → ℕ) (s : State) (w : ℕ) (row : WantRow) → IsOwned by s → find (wants_it w) s.wants ≡ Some row → row.caller ≡ by w
-want_caller by s w row o f = (o.wants row (found_among (wants_it w) row s.wants f)).1 ∙ ap by (eqb-true row.want w (found_passes (wants_it w) s.wants row f))
-
-pub dial_caller : (by : ℕ → ℕ) (s : State) (w : ℕ) (row : DialRow) → IsOwned by s → find (dials_for w) s.dials ≡ Some row → row.caller ≡ by w
-dial_caller by s w row o f = (o.dials row (found_among (dials_for w) row s.dials f)).1 ∙ ap by (eqb-true row.want w (found_passes (dials_for w) s.dials row f))
-
-place_owned : (by : ℕ → ℕ) (n w c : ℕ) (place : Place) → place ≡ Out w c → PlaceIs (Owned by n) place → c ≡ by w
-place_owned by n w c (Out v d) e p = (let same : v ≡ w = cc in let caller : d ≡ c = cc in sym caller ∙ p.1 ∙ ap by same)
-place_owned by n w c (Idle a b) e p = absurd (cc)
-
-pub conn_caller : (by : ℕ → ℕ) (s : State) (w c : ℕ) (row : ConnRow) → IsOwned by s → Among row s.conns → row.place ≡ Out w c → c ≡ by w
-conn_caller by s w c row o m p = place_owned by s.next_want w c row.place p (o.conns row m)
-
-out_same : (place : Place) (w c d : ℕ) → place ≡ Out w c → c ≡ d → place ≡ Out w d
-out_same place w c d p e = p ∙ ap (λ n. Out w n) e
-
--- a connection that serves a want of the caller is out to it
-pub served_place : (by : ℕ → ℕ) (c : ℕ) (s : State) (w : ℕ) (row : ConnRow) → IsOwned by s → by w ≡ c → standing s w ≡ Served row → row.place ≡ Out w c
-served_place by c s w row o mine st =
-    let f = served_row s w row st in
-    let out = out_at w row (found_passes (is_with w) s.conns row f) in
-    out_same row.place w out.0 c out.1 (conn_caller by s w out.0 row o (found_among (is_with w) row s.conns f) out.1 ∙ mine)
-
-pub served_number : (s : State) (w : ℕ) (row : ConnRow) → Numbers s → standing s w ≡ Served row → find (has_number row.conn) s.conns ≡ Some row
-unfolding weight
-served_number s w row n st = by_number row.conn (is_with w) row s.conns (eq-eqb row.conn row.conn refl) (served_row s w row st) (omega (arith, n.con row.conn))
-
 -- a want whose ticket, or whose dial token, is out is the caller's
 pub ticket_own : (by : ℕ → ℕ) (c : ℕ) (s : State) (out : List Holding) (taken : List ℕ) (w : ℕ) → Ties by c s out taken → has_ticket w out ≡ true → by w ≡ c
 ticket_own by c s out taken w k t = let h = has w out (λ x. x.ticket) t in is_own by c s out taken w h.row k h.found

@@ -10,7 +10,7 @@ use Rattle.gw_pool.specs.declared.rows.ConnRow.{ConnRow}
 use Rattle.gw_pool.specs.declared.leases.Ticket.{Ticket}
 use Rattle.gw_pool.specs.State.{State}
 use Rattle.gw_pool.specs.Machine.{Outcome, want_step}
-use Rattle.gw_pool.specs.History.{AreBelow, mine, is_full}
+use Rattle.gw_pool.specs.History.{AreBelow, mine, refuses}
 use Rattle.gw_pool.specs.Tokens.{ticket_of}
 use Rattle.gw_pool.specs.Core.{CoreView, Enters, Started, Done, DonePut, CancelDone, IsBack, IsOut, IdleTaken as CoreIdle, IdleNot as CoreNot, IdleDone, state_at, WantMade as CoreMade, WantExpired as CoreExpired, AskTaken as CoreTaken, NotStarted}
 use Rattle.gw_pool.specs.Lent as lent
@@ -169,7 +169,7 @@ want_expired link l core core' host now conn m d = record {
   leaves = record { out = refl; waits = refl };
 }
 
-pub want_full : (l : Lent) (core core' : CoreView) → Meeting l core → core' ≡ core → is_full core.limits core.journal ≡ true → lent.WantFull l (known l core' l.out l.waits)
+pub want_full : (l : Lent) (core core' : CoreView) → Meeting l core → core' ≡ core → refuses core.limits core.journal ≡ true → lent.WantFull l (known l core' l.out l.waits)
 want_full l core core' m e f = record {
   others = m.others;
   looks = looks l core core' l.out l.waits m (ap (λ c. c.limits) e) (ap (λ c. c.journal) e);

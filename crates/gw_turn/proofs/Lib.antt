@@ -1,8 +1,5 @@
-pub mod RowSteps
-pub mod Owners
 pub mod Moving
 pub mod Callers
-pub mod Staying
 pub mod CoreCalls
 pub mod RowCalls
 pub mod Sums

@@ -13,7 +13,7 @@ use Rattle.gw_pool.specs.Core.{IsMade}
 use Rattle.gw_pool.specs.Places.{is_granted}
 use Rattle.gw_pool.specs.State.{State, wants_it, dials_for, has_number, is_with, take_oldest}
 use Rattle.gw_pool.specs.Machine.{want_step, start_row, dialed_row, failed_row, cancel_row, cancel_conn, back_row, drop_row}
-use Rattle.gw_pool.specs.Shelf.{is_taken, LeavesTaken, LeavesOthers}
+use Rattle.gw_pool.specs.Shelf.{is_among, LeavesTaken, LeavesOthers}
 use Rattle.gw_pool.specs.Tokens.{names, change, holds, ticket_of, has_ticket, has_dial, has_lease, with_dial, without_dial, without_ticket, leased, without_lease}
 use Rattle.gw_pool.proofs.Edits.{found_passes}
 use Rattle.gw_pool.proofs.Weights.{Weigh, weight, want_weight, conn_weight, place_weight, start_less, drop_less, drop_dials, back_less, back_dials, cancel_less, cancel_dials, cancel_conn_less, cancel_conn_dials, failed_less, failed_dials, dialed_adds, dialed_dials, oldest_keeps}
@@ -57,8 +57,8 @@ move_want : (by : ℕ → ℕ) (c : ℕ) (s t : State) (out : List Holding) (tak
     → weight (occ_of w) t ≤ bit (f h).ticket + bit (f h).lease
     → dials_of w t.dials ≡ bit (f h).dial
     → ((v : ℕ) → (v ≡ w → ⊥) → dials_of v t.dials ≡ dials_of v s.dials)
-    → ((f h).ticket ≡ true → is_taken w taken' ≡ false)
-    → ((v : ℕ) → (v ≡ w → ⊥) → is_taken v taken ≡ false → is_taken v taken' ≡ false)
+    → ((f h).ticket ≡ true → is_among w taken' ≡ false)
+    → ((v : ℕ) → (v ≡ w → ⊥) → is_among v taken ≡ false → is_among v taken' ≡ false)
     → Moves by by c s t taken taken' out (change w f out)
 move_want by c s t out taken taken' w h f r k e next less heldw dialsw dialsv untakenw takenv =
     let a = changed w f out h r k.once e in
@@ -79,7 +79,7 @@ move_want by c s t out taken taken' w h f r k e next less heldw dialsw dialsv un
           | inr n ↦ rw (a.others v n) (dialsv v n ∙ k.dials v b)
         ];
         untaken = λ v. elim (decide v w) [
-          | inl same ↦ (let P : ℕ → Type 0 = λ n. has_ticket n (change w f out) ≡ true → is_taken n taken' ≡ false in subst P (sym same) (λ tk. untakenw (rw (a.here, kept_ticket (f h)) at tk)))
+          | inl same ↦ (let P : ℕ → Type 0 = λ n. has_ticket n (change w f out) ≡ true → is_among n taken' ≡ false in subst P (sym same) (λ tk. untakenw (rw (a.here, kept_ticket (f h)) at tk)))
           | inr n ↦ λ tk. takenv v n (k.untaken v (rw (a.others v n) at tk))
         ];
       };
@@ -94,7 +94,7 @@ held_row by c s out taken w h k e = let l = k.held w (is_own by c s out taken w 
 dials_row : (by : ℕ → ℕ) (c : ℕ) (s : State) (out : List Holding) (taken : List ℕ) (w : ℕ) (h : Holding) → Ties by c s out taken → find (names w) out ≡ Some h → dials_of w s.dials ≡ bit h.dial
 dials_row by c s out taken w h k e = let l = k.dials w (is_own by c s out taken w h k e) in rw e at l
 
-untaken_row : (by : ℕ → ℕ) (c : ℕ) (s : State) (out : List Holding) (taken : List ℕ) (w : ℕ) (h : Holding) → Ties by c s out taken → find (names w) out ≡ Some h → h.ticket ≡ true → is_taken w taken ≡ false
+untaken_row : (by : ℕ → ℕ) (c : ℕ) (s : State) (out : List Holding) (taken : List ℕ) (w : ℕ) (h : Holding) → Ties by c s out taken → find (names w) out ≡ Some h → h.ticket ≡ true → is_among w taken ≡ false
 untaken_row by c s out taken w h k e t = let l = k.untaken w in (rw e at l) t
 
 -- a connection that is dropped, or given back
@@ -284,7 +284,7 @@ move_made by by' c limits s out taken taken' host now v n fresh k new old m tk =
           | inr ne ↦ rw (find_push_other u w out ne) (k.dials u (sym (old u ne) ∙ b))
         ];
         untaken = λ u. elim (decide u w) [
-          | inl e ↦ (λ h. let Q : ℕ → Type 0 = λ m. is_taken m taken' ≡ false in subst Q (sym e) (tk w (fresh w (omega arith))))
+          | inl e ↦ (λ h. let Q : ℕ → Type 0 = λ m. is_among m taken' ≡ false in subst Q (sym e) (tk w (fresh w (omega arith))))
           | inr ne ↦ (λ h. tk u (k.untaken u (rw (find_push_other u w out ne) at h)))
         ];
       };

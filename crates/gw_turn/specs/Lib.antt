@@ -1,4 +1,3 @@
-pub mod Owner
 pub mod Tie
 pub mod Meeting
 pub mod Laws

@@ -15,7 +15,7 @@ use Rattle.gw_pool.specs.Offer.{Offered, grant_to, grant, evict, evict_row, rest
 use Rattle.gw_pool.specs.Machine.{Outcome, replied, want_new, want_idle, want_by, want_step, start_row, dialed_conn, dialed_to, dialed_row, failed_to, failed_row, cancel_row, cancel_conn, back_row, drop_row}
 use Rattle.gw_pool.proofs.Room.{Picked, picked}
 use Rattle.gw_pool.proofs.Owns.{among_left, among_push, found_among}
-use Rattle.gw_turn.specs.Owner.{made_by_reply, Rows, PlaceIs}
+use Rattle.gw_pool.specs.Owner.{made_by_reply, Rows, PlaceIs}
 
 -- edits of one list
 less_wants : (P : ℕ → ℕ → Type 0) (s : State) (test : WantRow → Bool) → Rows P s → Rows P (record s { wants = remove_first test s.wants })

@@ -18,9 +18,9 @@ use Rattle.gw_pool.proofs.Shelves.{out_at}
 use Rattle.gw_pool.proofs.Inverts.{cancel_was, back_was, drop_was, CancelRowWas, CancelConnWas}
 use Rattle.gw_pool.proofs.Walk.{last, legal_split}
 use Rattle.gw_pool.proofs.Outs.{out_conns_stay}
-use Rattle.gw_turn.specs.Owner.{owner, IsOwned}
-use Rattle.gw_turn.proofs.Owners.{legal_owned}
-use Rattle.gw_turn.proofs.Callers.{want_caller, conn_caller}
+use Rattle.gw_pool.specs.Owner.{owner, IsOwned}
+use Rattle.gw_pool.proofs.Owners.{legal_owned}
+use Rattle.gw_pool.proofs.Callers.{want_caller, conn_caller}
 
 out_caller : (place : Place) (v w c d : ℕ) → place ≡ Out v c → place ≡ Out w d → c ≡ d
 out_caller place v w c d p q = let both : Out v c ≡ Out w d = sym p ∙ q in cc

@@ -14,8 +14,8 @@ use Rattle.gw_pool.proofs.Inverts.{want_was, start_was, dialed_was, failed_was, 
 use Rattle.gw_pool.proofs.Weights.{start_less, dialed_adds, failed_less, cancel_less, cancel_conn_less, back_less, drop_less, oldest_keeps}
 use Rattle.gw_pool.proofs.Ties.{con_of}
 use Rattle.gw_pool.proofs.Walk.{walk}
-use Rattle.gw_turn.specs.Owner.{made_by, made_by_reply, owners_after, owners_from, owner, Rows, PlaceIs, Owned, IsOwned}
-use Rattle.gw_turn.proofs.RowSteps.{MakesOr, makes_or, start_rows, dialed_rows, failed_rows, cancel_rows, cancel_conn_rows, back_rows, drop_rows, oldest_rows, want_rows}
+use Rattle.gw_pool.specs.Owner.{made_by, made_by_reply, owners_after, owners_from, owner, Rows, PlaceIs, Owned, IsOwned}
+use Rattle.gw_pool.proofs.RowSteps.{MakesOr, makes_or, start_rows, dialed_rows, failed_rows, cancel_rows, cancel_conn_rows, back_rows, drop_rows, oldest_rows, want_rows}
 
 owners_push : (by : ℕ → ℕ) (h : List Entry) (e : Entry) → owners_from by (h ++ e ∷ []) ≡ owners_after (owners_from by h) e
 owners_push by [] e = refl

@@ -1,5 +1,6 @@
 -- Whose a want is: the caller whose entry made it. Each row of a want is its owner's.
 use Rattle.std.specs.Prelude.{◌≡◌, ℕ, ◌<◌, List, [], ◌∷◌, Option, Some, None, if◌then◌else◌}
+use Rattle.std.specs.List.{filter_map}
 use Rattle.gw_pool.specs.declared.entry.Entry.{Entry}
 use Rattle.gw_pool.specs.declared.entry.Call.{Call}
 use Rattle.gw_pool.specs.declared.entry.Call.TheVariants as call
@@ -24,6 +25,10 @@ made_by_reply _ = None
 abbrev pub made_by : Call → Reply → Option ℕ
 made_by (call.Want host now) answer = made_by_reply answer
 made_by _ answer = None
+
+-- the wants that a history made, in their order
+abbrev pub made_in : List Entry → List ℕ
+made_in history = filter_map (λ entry. made_by entry.call entry.reply) history
 
 -- the owners after an entry; a want that wasn't made counts as caller 0's
 abbrev pub owners_after : (ℕ → ℕ) → Entry → ℕ → ℕ
