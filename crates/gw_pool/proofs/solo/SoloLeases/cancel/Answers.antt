@@ -1,4 +1,5 @@
 -- A want of the one caller is given up.
+use Rattle.std.proofs.Common.{refl}
 use Rattle.gw_pool.proofs.SoloCalls.{holds_cancel, cancels}
 use Rattle.gw_pool.proofs.solo.SoloLeases.cancel.Goals as goal
 

@@ -1,4 +1,5 @@
 -- The one caller takes out the least recently idle connection.
+use Rattle.std.proofs.Common.{refl}
 use Rattle.gw_pool.specs.declared.entry.Call.TheVariants as call
 use Rattle.gw_pool.specs.Core.{state_at}
 use Rattle.gw_pool.proofs.Inverts.{close_was}
