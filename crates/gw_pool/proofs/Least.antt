@@ -320,7 +320,7 @@ conn_at None (Some r) row host n e h = let same : r ≡ row = cc in sym (ap (λ 
 to_host : (t : ℕ → WantRow → Bool) (xs : List WantRow) (a host w : ℕ) → a ≡ host → IsLeast (t a) xs w → IsLeast (t host) xs w
 to_host t xs a host w e l = let P : ℕ → Type 0 = λ n. IsLeast (t n) xs w in subst P e l
 
-with_none : (s : State) (want : ℕ) (row : ConnRow) → Numbers s → find (is_with want) s.conns ≡ Some row → find (wants_it want) s.wants ≡ None
+pub with_none : (s : State) (want : ℕ) (row : ConnRow) → Numbers s → find (is_with want) s.conns ≡ Some row → find (wants_it want) s.wants ≡ None
 with_none s want row k f = no_row want s (omega (arith, with_rows want s row f, k.occ want))
 
 cancel_step : (limits : Limits) (s : State) (caller want now host w : ℕ) (o : Outcome) → CancelRowWas limits s caller want o ⊎ CancelConnWas limits s caller want now o → Numbers s → want_host (find (wants_it want) s.wants) (find (is_with want) s.conns) ≡ Some host → next_want_of o.reply ≡ Some w → IsLeast (waits_for host) s.wants w

@@ -16,6 +16,7 @@ pub mod Inverts
 pub mod Ties
 pub mod TieCalls
 pub mod TieWant
+pub mod Mades
 pub mod SoloCalls
 pub mod Roomy
 pub mod Numbers
@@ -31,4 +32,7 @@ pub mod RowSteps
 pub mod Owners
 pub mod Callers
 pub mod Staying
+pub mod Comings
+pub mod GoingOn
+pub mod OwnEntries
 mod WorkedRows

@@ -41,7 +41,7 @@ grant_if : (s : State) (host : ℕ) (b : Bool) → (cond b (grant_to s (least_wa
 grant_if s host true = grant_to_conns s (least_waiting s host)
 grant_if s host false = refl
 
-grant_conns : (limits : Limits) (s : State) (host : ℕ) → (grant limits s host).1.conns ≡ s.conns
+pub grant_conns : (limits : Limits) (s : State) (host : ℕ) → (grant limits s host).1.conns ≡ s.conns
 unfolding grant
 grant_conns limits s host = grant_if s host (is_free limits s host)
 
@@ -57,12 +57,12 @@ pub served_conns : (want : ℕ) (p : Option ℕ × State) → (served want p).st
 served_conns want (next, u) = refl
 
 -- a row that is out stays among the rows
-was_there : {X : Type 0} (r y : X) (xs : List X) → Among r xs → Among r (xs ++ y ∷ [])
+pub was_there : {X : Type 0} (r y : X) (xs : List X) → Among r xs → Among r (xs ++ y ∷ [])
 was_there r y [] m = absurd m
 was_there r y (x ∷ xs) (inl e) = inl e
 was_there r y (x ∷ xs) (inr m) = inr (was_there r y xs m)
 
-is_last : {X : Type 0} (y : X) (xs : List X) → Among y (xs ++ y ∷ [])
+pub is_last : {X : Type 0} (y : X) (xs : List X) → Among y (xs ++ y ∷ [])
 is_last y [] = inl refl
 is_last y (x ∷ xs) = inr (is_last y xs)
 
@@ -107,7 +107,7 @@ offer_by w limits s row r now (Some want) q m =
     let t = record s { wants = remove_first (wants_as want.host want.want) s.wants; conns = s.conns ++ record row { place = Out want.want want.caller } ∷ [] } in
     rw (served_conns want.want (freed limits t want), freed_conns limits t want) (was_there r (record row { place = Out want.want want.caller }) s.conns m)
 
-offer_keeps : (w : ℕ) (limits : Limits) (s : State) (row r : ConnRow) (now : ℕ) → is_with w r ≡ true → Among r s.conns → Among r (offer_conn limits s row now).state.conns
+pub offer_keeps : (w : ℕ) (limits : Limits) (s : State) (row r : ConnRow) (now : ℕ) → is_with w r ≡ true → Among r s.conns → Among r (offer_conn limits s row now).state.conns
 unfolding offer_conn
 offer_keeps w limits s row r now q m = offer_by w limits s (record row { reused = true }) r now (least_want s row.host) q m
 
@@ -154,7 +154,7 @@ unfolding dialed_to
 dialed_by w limits s dial link now r (Some row) q m = was_there r (dialed_conn s dial link) s.conns m
 dialed_by w limits s dial link now r None q m = offer_keeps w limits (record s { next_conn = s.next_conn + 1 }) (dialed_conn s dial link) r now q m
 
-dialed_keeps : (w : ℕ) (limits : Limits) (s : State) (dial : DialRow) (link now : ℕ) (r : ConnRow) → is_with w r ≡ true → Among r s.conns → Among r (dialed_row limits s dial link now).state.conns
+pub dialed_keeps : (w : ℕ) (limits : Limits) (s : State) (dial : DialRow) (link now : ℕ) (r : ConnRow) → is_with w r ≡ true → Among r s.conns → Among r (dialed_row limits s dial link now).state.conns
 unfolding dialed_row
 dialed_keeps w limits s dial link now r q m = dialed_by w limits (record s { dials = remove_first (dials_for dial.want) s.dials }) dial link now r (find (wants_it dial.want) s.wants) q m
 
@@ -216,7 +216,7 @@ idle_step c w s o was h =
 number_is : (conn : ℕ) (s : State) (row : ConnRow) → find (has_number conn) s.conns ≡ Some row → row.conn ≡ conn
 number_is conn s row f = eqb-true row.conn conn (found_passes (has_number conn) s.conns row f)
 
-keeps : (c w : ℕ) (limits : Limits) (s : State) (caller : ℕ) (asked : Call) (o : Outcome) → step limits s caller asked ≡ Some o → takes_out c w asked ≡ false → (h : Held c w s) → Among h.row o.state.conns
+pub keeps : (c w : ℕ) (limits : Limits) (s : State) (caller : ℕ) (asked : Call) (o : Outcome) → step limits s caller asked ≡ Some o → takes_out c w asked ≡ false → (h : Held c w s) → Among h.row o.state.conns
 keeps c w limits s caller (call.Want host now) o e t h = on h.row o _ (want_was limits s caller host now o e) (want_keeps w limits s caller host now h.row h.out h.there)
 keeps c w limits s caller (call.Start want) o e t h = let was = start_was limits s caller want o e in on h.row o _ was.same (along_conns h.row s (start_row s was.row).state (start_conns s was.row) h.there)
 keeps c w limits s caller (call.Dialed want link now) o e t h = let was = dialed_was limits s caller want link now o e in on h.row o _ was.same (dialed_keeps w limits s was.row link now h.row h.out h.there)
@@ -424,7 +424,7 @@ puts_not c w v limits s caller (call.Expire now) o e k h t q = let was = expire_
 puts_not c w v limits s caller call.CloseIdle o e k h t q = let was = close_was limits s caller o e in says_none c v call.CloseIdle o _ was.same refl q
 
 -- along the entries between
-or_false : (a b : Bool) → (a || b) ≡ false → (a ≡ false) × (b ≡ false)
+pub or_false : (a b : Bool) → (a || b) ≡ false → (a ≡ false) × (b ≡ false)
 or_false true b e = absurd (cc)
 or_false false b e = (refl, e)
 

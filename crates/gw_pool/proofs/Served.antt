@@ -221,7 +221,7 @@ cancel_step : (w : ℕ) (limits : Limits) (s : State) (caller want now : ℕ) (o
 cancel_step w limits s caller want now o (inl was) = none_serves w s (call.Cancel want now) o _ was.same (cancel_none (call.Cancel want now) limits s was.row) (weaken (row_of w) s _ (want_weight (row_of w) was.row) (cancel_less (row_of w) limits s want was.row was.found))
 cancel_step w limits s caller want now o (inr was) = on w s (call.Cancel want now) o _ was.same (cancel_conn_serves w limits s want now was.row)
 
-step_serves : (w : ℕ) (limits : Limits) (s : State) (caller : ℕ) (asked : Call) (o : Outcome) → step limits s caller asked ≡ Some o → Serving w s asked o
+pub step_serves : (w : ℕ) (limits : Limits) (s : State) (caller : ℕ) (asked : Call) (o : Outcome) → step limits s caller asked ≡ Some o → Serving w s asked o
 step_serves w limits s caller (call.Want host now) o e = on w s (call.Want host now) o _ (want_was limits s caller host now o e) (want_serves w limits s caller host now)
 step_serves w limits s caller (call.Start want) o e = let was = start_was limits s caller want o e in none_serves w s (call.Start want) o _ was.same (start_none (call.Start want) s was.row) (start_less (row_of w) s want was.row was.found was.granted)
 step_serves w limits s caller (call.Dialed want link now) o e =
@@ -266,7 +266,7 @@ none_dials : (w : ℕ) (xs : List DialRow) → sum_by (λ (r : DialRow). (row_of
 none_dials w [] = refl
 none_dials w (x ∷ xs) = omega (arith, sum_by-cons (λ (r : DialRow). (row_of w).dial r.want) x xs, none_dials w xs)
 
-rows_few : (w : ℕ) (s : State) → rows w s ≤ weight (occ_of w) s
+pub rows_few : (w : ℕ) (s : State) → rows w s ≤ weight (occ_of w) s
 unfolding weight
 rows_few w s = omega (arith, few_rows w s.wants, none_of w s.conns, none_dials w s.dials)
 
@@ -278,10 +278,10 @@ with_rows w s row f =
     let here : place_weight (occ_of w) row.place ≡ 1 = ap (place_weight (occ_of w)) out.1 ∙ one_same w in
     omega (arith, few_rows w s.wants, none_of w s.conns, none_dials w s.dials, removed (conn_weight (occ_of w)) (is_with w) s.conns row f, here)
 
-new_number : (w : ℕ) (s : State) → Numbers s → 1 ≤ weight (occ_of w) s → w < s.next_want
+pub new_number : (w : ℕ) (s : State) → Numbers s → 1 ≤ weight (occ_of w) s → w < s.next_want
 new_number w s n l = elim (below w s.next_want) [ inl b ↦ b | inr a ↦ absurd (omega (arith, l, n.occ_new w a)) ]
 
-row_here : (w : ℕ) (s : State) (row : WantRow) → find (wants_it w) s.wants ≡ Some row → want_weight (row_of w) row ≡ 1
+pub row_here : (w : ℕ) (s : State) (row : WantRow) → find (wants_it w) s.wants ≡ Some row → want_weight (row_of w) row ≡ 1
 row_here w s row f = stage_is w row.stage row.want ∙ ap (λ n. one w n) (eqb-true row.want w (found_passes (wants_it w) s.wants row f)) ∙ one_same w
 
 has_row : (w : ℕ) (s : State) (row : WantRow) → find (wants_it w) s.wants ≡ Some row → 1 ≤ rows w s
@@ -322,7 +322,7 @@ failed_ends w limits s dial e f l =
     let t = record s { dials = remove_first (dials_for dial.want) s.dials } in
     failed_by w limits t dial (find (wants_it dial.want) s.wants) e refl (omega (arith, without_dial (row_of w) s dial (dials_for dial.want) f, l))
 
-dial_number : (w : ℕ) (s : State) (dial : DialRow) → Numbers s → find (dials_for w) s.dials ≡ Some dial → w < s.next_want
+pub dial_number : (w : ℕ) (s : State) (dial : DialRow) → Numbers s → find (dials_for w) s.dials ≡ Some dial → w < s.next_want
 dial_number w s dial n f =
     let same : dial.want ≡ w = eqb-true dial.want w (found_passes (dials_for w) s.dials dial f) in
     let heavy : 1 ≤ weight (dia_of w) s = omega (arith, without_dial (dia_of w) s dial (dials_for w) f, ap (λ m. one w m) same ∙ one_same w) in
@@ -385,7 +385,7 @@ told_gone : (w : ℕ) (s : State) (asked : Call) (o : Outcome) → Serving w s a
 told_gone w s asked o (inl k) z l = (omega (arith, k.0, z), omega (arith, k.1, l))
 told_gone w s asked o (inr k) z l = (omega (arith, k.0, z, one_other w s.next_want (λ same. omega (arith, same, l))), omega (arith, k.1, l))
 
-not_less : (w : ℕ) (s : State) (asked : Call) (o : Outcome) → Serving w s asked o → s.next_want ≤ o.state.next_want
+pub not_less : (w : ℕ) (s : State) (asked : Call) (o : Outcome) → Serving w s asked o → s.next_want ≤ o.state.next_want
 not_less w s asked o (inl k) = omega (arith, k.1)
 not_less w s asked o (inr k) = omega (arith, k.1)
 

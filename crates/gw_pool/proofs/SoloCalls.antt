@@ -6,6 +6,7 @@ use Rattle.std.proofs.lemmas.List.Elements.{All-push, All-nil}
 use Rattle.std.proofs.lemmas.List.Sums.{sum_by-cons}
 use Rattle.gw_wire.specs.Link.{LinkView}
 use Rattle.gw_pool.specs.declared.limits.Limits.{Limits}
+use Rattle.gw_pool.specs.declared.entry.Entry.{Entry}
 use Rattle.gw_pool.specs.declared.entry.Call.{Call}
 use Rattle.gw_pool.specs.declared.entry.Call.TheVariants as call
 use Rattle.gw_pool.specs.declared.holding.Holding.{Holding}
@@ -21,12 +22,13 @@ use Rattle.gw_pool.specs.declared.leases.Put.{Put}
 use Rattle.gw_pool.specs.Closes.{IsOf}
 use Rattle.gw_pool.specs.State.{State, empty, wants_it, dials_for, has_number, is_with}
 use Rattle.gw_pool.specs.Machine.{Outcome, step, want_step, Standing, Served, MayDial, NotServed, NotComing, standing, stands_as, stage_standing}
-use Rattle.gw_pool.specs.History.{IsLegal, AreBelow, after, refuses}
-use Rattle.gw_pool.specs.Shelf.{LeavesTaken}
+use Rattle.gw_pool.specs.History.{IsLegal, AreBelow, after, mine, refuses}
+use Rattle.gw_pool.specs.Shelf.{is_among, LeavesTaken}
 use Rattle.gw_pool.specs.Tokens.{TokensView, change, ticket_of, has_ticket, has_dial, has_lease, with_dial, without_dial, without_ticket, leased, without_lease}
 use Rattle.gw_pool.specs.Core.{CoreView, Enters, Started, Done, DonePut, CancelDone, IsBack, IdleTaken as CoreIdle, IdleNot as CoreNot, IdleDone, state_at, WantMade as CoreMade, WantExpired as CoreExpired, AskTaken as CoreTaken}
 use Rattle.gw_pool.specs.Lent as lent
 use Rattle.gw_pool.specs.Lent.{Lent, Meets, Calls, Looks, Leaves}
+use Rattle.gw_pool.specs.Owner.{made_in}
 use Rattle.gw_pool.specs.Ties.{Tied, SoloHolds, Owns, OutBy, dials_of, one, bit, Weigh, weight, occ_of, dia_of, con_of}
 use Rattle.gw_pool.proofs.Edits.{found_passes}
 use Rattle.gw_pool.proofs.Shelves.{out_at}
@@ -34,29 +36,48 @@ use Rattle.gw_pool.proofs.Histories.{entered_state}
 use Rattle.gw_pool.proofs.Owns.{found_among}
 use Rattle.gw_pool.proofs.Inverts.{want_was, start_was, dialed_was, failed_was, cancel_was, back_was, drop_was, IdleWas, CancelRowWas, CancelConnWas}
 use Rattle.gw_pool.proofs.TieCalls.{tie_start, tie_dialed, tie_failed, tie_lease, tie_none, tie_cancel, tie_cancel_conn, tie_back, tie_drop, tie_idle, leased_has}
-use Rattle.gw_pool.proofs.TieWant.{tie_made, tie_expired, with_number}
+use Rattle.gw_pool.proofs.TieWant.{tie_made, tie_expired, with_number, units_named}
+use Rattle.gw_pool.proofs.Mades.{made_more, made_last, made_is, mine_push, mine_one}
 
 abbrev pub lent_of : CoreView → TokensView → ℕ → Lent
-lent_of core tokens waits = record { limits = core.limits; number = 0; seen = core.journal; mine = core.journal; out = tokens.out; waits = waits }
+lent_of core tokens waits = record { limits = core.limits; number = 0; seen = core.journal; mine = core.journal; out = tokens.out; waits = waits; fresh = made_in core.journal; audit_failed = 0; ended = false }
+
+ap2_entry : (journal : List Entry) (e : Entry) → e.caller ≡ 0 → mine journal 0 ≡ journal → mine journal 0 ++ mine (e ∷ []) 0 ≡ journal ++ e ∷ []
+ap2_entry journal e z own = ap (λ xs. xs ++ mine (e ∷ []) 0) own ∙ ap (λ xs. journal ++ xs) (mine_one e 0 z)
 
 -- an entry more is of a caller of the pool
 callers_push : (core core' : CoreView) (t : TokensView) (caller : ℕ) (asked : Call) (outcome : Outcome) → SoloHolds core t → caller ≡ 0 → Enters core core' caller asked outcome → AreBelow core'.limits.passes core'.journal
 callers_push core core' t caller asked outcome h z e =
     rw (e.limits, e.journal) (All-push (λ entry. entry.caller < core.limits.passes) core.journal (lent.entry_of caller asked outcome.reply) h.callers (rw z h.passes))
 
+-- what stays in each call
+met : (core core' : CoreView) (t t' : TokensView) (w w' : ℕ) → core'.limits ≡ core.limits → ((v : ℕ) → is_among v (made_in core.journal) ≡ true → is_among v (made_in core'.journal) ≡ true) → SoloHolds core' t' → Meets (lent_of core t w) (lent_of core' t' w') []
+met core core' t t' w w' l f h = record {
+  limits = l;
+  few = h.few;
+  number = refl;
+  foreign = refl;
+  legal = h.legal;
+  callers = h.callers;
+  own = h.mine;
+  named = λ v m e. units_named (state_at core') t'.out core'.taken v h.tied m e;
+  fresh = f;
+  ended = refl;
+}
+
 -- an entry is the caller's, and nobody else made one
-pub calls : (core core' : CoreView) (t t' : TokensView) (w w' : ℕ) (asked : Call) (outcome : Outcome) → SoloHolds core t → Enters core core' 0 asked outcome → Calls (lent_of core t w) (lent_of core' t' w') [] asked outcome
+pub calls : (core core' : CoreView) (t t' : TokensView) (w w' : ℕ) (asked : Call) (outcome : Outcome) → SoloHolds core' t' → Enters core core' 0 asked outcome → Calls (lent_of core t w) (lent_of core' t' w') [] asked outcome
 calls core core' t t' w w' asked outcome h e = record {
-  meets = record { limits = e.limits; number = refl; foreign = refl; legal = e.legal; callers = callers_push core core' t 0 asked outcome h refl e };
+  meets = met core core' t t' w w' e.limits (λ v k. rw e.journal (made_more core.journal (lent.entry_of 0 asked outcome.reply ∷ []) v k)) h;
   fits = rw (append-nil core.journal) e.fits;
   state = rw e.journal (entered_state core.limits core.journal 0 asked outcome e.fits);
   seen = rw (append-nil core.journal) e.journal;
   mine = e.journal;
 }
 
-pub looks : (core core' : CoreView) (t t' : TokensView) (w w' : ℕ) → SoloHolds core t → core'.limits ≡ core.limits → core'.journal ≡ core.journal → Looks (lent_of core t w) (lent_of core' t' w') []
+pub looks : (core core' : CoreView) (t t' : TokensView) (w w' : ℕ) → SoloHolds core' t' → core'.limits ≡ core.limits → core'.journal ≡ core.journal → Looks (lent_of core t w) (lent_of core' t' w') []
 looks core core' t t' w w' h a b = record {
-  meets = record { limits = a; number = refl; foreign = refl; legal = rw (a, b) h.legal; callers = rw (a, b) h.callers };
+  meets = met core core' t t' w w' a (λ v k. rw b k) h;
   seen = rw (append-nil core.journal) b;
   mine = b;
 }
@@ -74,6 +95,8 @@ holds_after core core' t t' caller asked outcome out h z e r o k = record {
   legal = e.legal;
   passes = rw e.limits h.passes;
   callers = callers_push core core' t caller asked outcome h z e;
+  few = rw e.limits h.few;
+  mine = rw e.journal (mine_push core.journal (lent.entry_of caller asked outcome.reply) 0 ∙ ap2_entry core.journal (lent.entry_of caller asked outcome.reply) z h.mine);
   room = rw (e.limits, r) h.room;
 }
 
@@ -83,6 +106,8 @@ holds_here core core' t t' out h a b r o k = record {
   legal = rw (a, b) h.legal;
   passes = rw a h.passes;
   callers = rw (a, b) h.callers;
+  few = rw a h.few;
+  mine = rw b h.mine;
   room = rw (a, r) h.room;
 }
 
@@ -280,28 +305,28 @@ holds_idle link core core' t asked conn h s was =
 holds_same : (core core' : CoreView) (t : TokensView) → SoloHolds core t → core' ≡ core → SoloHolds core' t
 holds_same core core' t h e = rw e h
 
-idle_taken : {C : Type 0} (link : C → LinkView) (core core' : CoreView) (t : TokensView) (n : ℕ) (asked : Call) (conn : C) → SoloHolds core t → CoreIdle link core core' 0 asked conn → lent.IdleTaken link (lent_of core t n) (lent_of core' t n) asked conn
+idle_taken : {C : Type 0} (link : C → LinkView) (core core' : CoreView) (t : TokensView) (n : ℕ) (asked : Call) (conn : C) → SoloHolds core' t → CoreIdle link core core' 0 asked conn → lent.IdleTaken link (lent_of core t n) (lent_of core' t n) asked conn
 idle_taken link core core' t n asked conn h s = record {
   others = [];
   outcome = s.outcome;
   calls = calls core core' t t n n asked s.outcome h s.enters;
   close = s.close;
-  leaves = record { out = refl; waits = refl };
+  leaves = record { out = refl; waits = refl; audit_failed = refl };
 }
 
-idle_not : (core core' : CoreView) (t : TokensView) (n : ℕ) (asked : Call) → SoloHolds core t → CoreNot core core' asked → lent.IdleNot (lent_of core t n) (lent_of core' t n) asked
+idle_not : (core core' : CoreView) (t : TokensView) (n : ℕ) (asked : Call) → SoloHolds core' t → CoreNot core core' asked → lent.IdleNot (lent_of core t n) (lent_of core' t n) asked
 idle_not core core' t n asked h s = record {
   others = [];
   looks = looks core core' t t n n h (ap (λ c. c.limits) s.same) (ap (λ c. c.journal) s.same);
   unfit = rw (append-nil core.journal) s.unfit;
-  leaves = record { out = refl; waits = refl };
+  leaves = record { out = refl; waits = refl; audit_failed = refl };
 }
 
 pub holds_idle_done : {C : Type 0} (link : C → LinkView) (core core' : CoreView) (t : TokensView) (asked : Call) (o : Option C) → SoloHolds core t → IdleDone link core core' 0 asked o → ((out : Outcome) → step core.limits (state_at core) 0 asked ≡ Some out → IdleWas (state_at core) out) → SoloHolds core' t
 holds_idle_done link core core' t asked (Some conn) h s was = holds_idle link core core' t asked conn h s (was s.outcome s.enters.fits)
 holds_idle_done link core core' t asked None h s was = holds_same core core' t h s.same
 
-pub idle_done : {C : Type 0} (link : C → LinkView) (core core' : CoreView) (t : TokensView) (n : ℕ) (asked : Call) (o : Option C) → SoloHolds core t → IdleDone link core core' 0 asked o → lent.IdleStep link (lent_of core t n) (lent_of core' t n) asked o
+pub idle_done : {C : Type 0} (link : C → LinkView) (core core' : CoreView) (t : TokensView) (n : ℕ) (asked : Call) (o : Option C) → SoloHolds core' t → IdleDone link core core' 0 asked o → lent.IdleStep link (lent_of core t n) (lent_of core' t n) asked o
 idle_done link core core' t n asked (Some conn) h s = idle_taken link core core' t n asked conn h s
 idle_done link core core' t n asked None h s = idle_not core core' t n asked h s
 
@@ -336,30 +361,30 @@ holds_cancel_by link core core' t t' w now close NotComing e h d k o r = holds_n
 pub holds_cancel : {C : Type 0} (link : C → LinkView) (core core' : CoreView) (t t' : TokensView) (w now : ℕ) (close : Option C) → SoloHolds core t → CancelDone link core core' w now close (standing (state_at core) w) → has_ticket w t.out ≡ true → t'.out ≡ change w without_ticket t.out → t'.room ≡ t.room → SoloHolds core' t'
 holds_cancel link core core' t t' w now close h d k o r = holds_cancel_by link core core' t t' w now close (standing (state_at core) w) refl h d k o r
 
-put_made : {C : Type 0} (link : C → LinkView) (core core' : CoreView) (t t' : TokensView) (n : ℕ) (ticket : Ticket) (now : ℕ) (put : Put C) → SoloHolds core t → DonePut link core core' (call.Cancel ticket.want now) put.close → lent.CancelMade link (lent_of core t n) (lent_of core' t' n) [] ticket now put
-put_made link core core' t t' n ticket now put h s =
+put_made : {C : Type 0} (link : C → LinkView) (core core' : CoreView) (t t' : TokensView) (n : ℕ) (ticket : Ticket) (now : ℕ) (put : Put C) → SoloHolds core t → SoloHolds core' t' → DonePut link core core' (call.Cancel ticket.want now) put.close → lent.CancelMade link (lent_of core t n) (lent_of core' t' n) [] ticket now put
+put_made link core core' t t' n ticket now put h k s =
     let was = cancel_was core.limits (state_at core) s.caller ticket.want now s.outcome s.enters.fits in
     let P : ℕ → Type 0 = λ m. Enters core core' m (call.Cancel ticket.want now) s.outcome in
     record {
       outcome = s.outcome;
-      calls = calls core core' t t' n n (call.Cancel ticket.want now) s.outcome h (subst P (cancel_zero core t ticket.want now s.caller s.outcome h was) s.enters);
+      calls = calls core core' t t' n n (call.Cancel ticket.want now) s.outcome k (subst P (cancel_zero core t ticket.want now s.caller s.outcome h was) s.enters);
       close = s.closes;
     }
 
-cancel_by : {C : Type 0} (link : C → LinkView) (core core' : CoreView) (t t' : TokensView) (n : ℕ) (ticket : Ticket) (now : ℕ) (put : Put C) (st : Standing) → SoloHolds core t → CancelDone link core core' ticket.want now put.close st → lent.CancelBy link (lent_of core t n) (lent_of core' t' n) [] ticket now put st
-cancel_by link core core' t t' n ticket now put (Served row) h d = put_made link core core' t t' n ticket now put h d
-cancel_by link core core' t t' n ticket now put MayDial h d = put_made link core core' t t' n ticket now put h d
-cancel_by link core core' t t' n ticket now put NotServed h d = put_made link core core' t t' n ticket now put h d
-cancel_by link core core' t t' n ticket now put NotComing h d = record {
-  looks = looks core core' t t' n n h (ap (λ c. c.limits) d.0) (ap (λ c. c.journal) d.0);
+cancel_by : {C : Type 0} (link : C → LinkView) (core core' : CoreView) (t t' : TokensView) (n : ℕ) (ticket : Ticket) (now : ℕ) (put : Put C) (st : Standing) → SoloHolds core t → SoloHolds core' t' → CancelDone link core core' ticket.want now put.close st → lent.CancelBy link (lent_of core t n) (lent_of core' t' n) [] ticket now put st
+cancel_by link core core' t t' n ticket now put (Served row) h k d = put_made link core core' t t' n ticket now put h k d
+cancel_by link core core' t t' n ticket now put MayDial h k d = put_made link core core' t t' n ticket now put h k d
+cancel_by link core core' t t' n ticket now put NotServed h k d = put_made link core core' t t' n ticket now put h k d
+cancel_by link core core' t t' n ticket now put NotComing h k d = record {
+  looks = looks core core' t t' n n k (ap (λ c. c.limits) d.0) (ap (λ c. c.journal) d.0);
   close = d.1;
 }
 
-pub cancels : {C : Type 0} (link : C → LinkView) (core core' : CoreView) (t t' : TokensView) (n : ℕ) (ticket : Ticket) (now : ℕ) (put : Put C) → SoloHolds core t → CancelDone link core core' ticket.want now put.close (standing (state_at core) ticket.want) → t'.out ≡ change ticket.want without_ticket t.out → lent.CancelStep link (lent_of core t n) (lent_of core' t' n) ticket now put
-cancels link core core' t t' n ticket now put h d o = record {
+pub cancels : {C : Type 0} (link : C → LinkView) (core core' : CoreView) (t t' : TokensView) (n : ℕ) (ticket : Ticket) (now : ℕ) (put : Put C) → SoloHolds core t → SoloHolds core' t' → CancelDone link core core' ticket.want now put.close (standing (state_at core) ticket.want) → t'.out ≡ change ticket.want without_ticket t.out → lent.CancelStep link (lent_of core t n) (lent_of core' t' n) ticket now put
+cancels link core core' t t' n ticket now put h k d o = record {
   others = [];
-  does = rw (append-nil core.journal) (cancel_by link core core' t t' n ticket now put (standing (state_at core) ticket.want) h d);
-  leaves = record { out = o; waits = refl };
+  does = rw (append-nil core.journal) (cancel_by link core core' t t' n ticket now put (standing (state_at core) ticket.want) h k d);
+  leaves = record { out = o; waits = refl; audit_failed = refl };
 }
 
 -- opening
@@ -387,18 +412,20 @@ empty_tied = record {
   taken_new = λ w l. refl;
 }
 
-pub solo_opened : (core : CoreView) (t : TokensView) (limits : Limits) → core.limits ≡ limits → core.journal ≡ [] → core.taken ≡ [] → t.out ≡ [] → 0 < limits.passes → limits.per_pass ≤ t.room → SoloHolds core t
+pub solo_opened : (core : CoreView) (t : TokensView) (limits : Limits) → core.limits ≡ limits → core.journal ≡ [] → core.taken ≡ [] → t.out ≡ [] → 0 < limits.passes → 0 < limits.per_pass → limits.per_pass ≤ t.room → SoloHolds core t
 unfolding after IsLegal
-solo_opened core t limits l j k o p r = record {
+solo_opened core t limits l j k o p q r = record {
   tied = rw (j, k, o) empty_tied;
   legal = rw j tt;
   passes = rw l p;
   callers = rw j (All-nil (λ entry. entry.caller < core.limits.passes));
+  few = rw l q;
+  mine = rw j refl;
   room = rw l r;
 }
 
 -- what each call does
-pub want_made : (core core' : CoreView) (t t' : TokensView) (n host now v : ℕ) (ticket : Ticket) → SoloHolds core t → CoreMade core core' 0 host now v → ticket.want ≡ v → ticket.host ≡ host → t'.out ≡ t.out ++ ticket_of v ∷ [] → lent.WantMade (lent_of core t n) (lent_of core' t' n) host now ticket
+pub want_made : (core core' : CoreView) (t t' : TokensView) (n host now v : ℕ) (ticket : Ticket) → SoloHolds core' t' → CoreMade core core' 0 host now v → ticket.want ≡ v → ticket.host ≡ host → t'.out ≡ t.out ++ ticket_of v ∷ [] → lent.WantMade (lent_of core t n) (lent_of core' t' n) host now ticket
 want_made core core' t t' n host now v ticket h m a b o = record {
   others = [];
   outcome = m.outcome;
@@ -406,46 +433,47 @@ want_made core core' t t' n host now v ticket h m a b o = record {
   room = rw (append-nil core.journal) m.has_room;
   made = rw a m.is_made;
   names = b;
-  leaves = record { out = rw a o; waits = refl };
+  fresh = rw m.enters.journal (made_last core.journal (lent.entry_of 0 (call.Want host now) m.outcome.reply) ticket.want (made_is ticket.want m.outcome.reply (rw a m.is_made)));
+  leaves = record { out = rw a o; waits = refl; audit_failed = refl };
 }
 
-pub want_expired : {C : Type 0} (link : C → LinkView) (core core' : CoreView) (t : TokensView) (n host now : ℕ) (conn : C) → SoloHolds core t → CoreExpired link core core' 0 host now conn → lent.WantExpired link (lent_of core t n) (lent_of core' t n) host now conn
+pub want_expired : {C : Type 0} (link : C → LinkView) (core core' : CoreView) (t : TokensView) (n host now : ℕ) (conn : C) → SoloHolds core' t → CoreExpired link core core' 0 host now conn → lent.WantExpired link (lent_of core t n) (lent_of core' t n) host now conn
 want_expired link core core' t n host now conn h m = record {
   others = [];
   outcome = m.outcome;
   calls = calls core core' t t n n (call.Want host now) m.outcome h m.enters;
   room = rw (append-nil core.journal) m.has_room;
   close = m.close;
-  leaves = record { out = refl; waits = refl };
+  leaves = record { out = refl; waits = refl; audit_failed = refl };
 }
 
 full_after : (core core' : CoreView) → core' ≡ core → refuses core.limits core.journal ≡ true → refuses core'.limits core'.journal ≡ true
 full_after core core' e f = rw e f
 
-pub want_full : (core core' : CoreView) (t : TokensView) (n : ℕ) → SoloHolds core t → core' ≡ core → refuses core.limits core.journal ≡ true → lent.WantFull (lent_of core t n) (lent_of core' t n)
+pub want_full : (core core' : CoreView) (t : TokensView) (n : ℕ) → SoloHolds core' t → core' ≡ core → refuses core.limits core.journal ≡ true → lent.WantFull (lent_of core t n) (lent_of core' t n)
 want_full core core' t n h e f = record {
   others = [];
   looks = looks core core' t t n n h (ap (λ c. c.limits) e) (ap (λ c. c.journal) e);
   full = full_after core core' e f;
-  leaves = record { out = refl; waits = refl };
+  leaves = record { out = refl; waits = refl; audit_failed = refl };
 }
 
 pub row_eq : (row : ConnRow) (number host link w : ℕ) (reused : Bool) → number ≡ row.conn → host ≡ row.host → link ≡ row.link → reused ≡ row.reused → row.place ≡ Out w 0 → row ≡ record { conn = number; host = host; link = link; reused = reused; place = Out w 0 }
 row_eq row number host link w reused a b c d p = rw (a, b, c, d, ← p) refl
 
-pub ask_taken : {C : Type 0} (link : C → LinkView) (core core' : CoreView) (t t' : TokensView) (n : ℕ) (ticket : Ticket) (conn : C) (number : ℕ) (reused : Bool) (host linked : ℕ) → SoloHolds core t → CoreTaken link core core' ticket.want conn number reused host → linked ≡ (link conn).number → has_ticket ticket.want t.out ≡ true → t'.out ≡ change ticket.want leased t.out → has_lease ticket.want t'.out ≡ true → lent.AskTaken link (lent_of core t n) (lent_of core' t' n) ticket (record { conn = conn; no = number; want = ticket.want; host = host; link = linked; reused = reused })
-ask_taken link core core' t t' n ticket conn number reused host linked h m e k o le =
+pub ask_taken : {C : Type 0} (link : C → LinkView) (core core' : CoreView) (t t' : TokensView) (n : ℕ) (ticket : Ticket) (conn : C) (number : ℕ) (reused : Bool) (host linked : ℕ) → SoloHolds core t → SoloHolds core' t' → CoreTaken link core core' ticket.want conn number reused host → linked ≡ (link conn).number → has_ticket ticket.want t.out ≡ true → t'.out ≡ change ticket.want leased t.out → has_lease ticket.want t'.out ≡ true → lent.AskTaken link (lent_of core t n) (lent_of core' t' n) ticket (record { conn = conn; no = number; want = ticket.want; host = host; link = linked; reused = reused })
+ask_taken link core core' t t' n ticket conn number reused host linked h h' m e k o le =
     let place = row_is core t ticket.want m.row h m.stands in
     let same : m.row ≡ record { conn = number; host = host; link = linked; reused = reused; place = Out ticket.want 0 } =
     row_eq m.row number host linked ticket.want reused m.is_no m.is_host (e ∙ m.is_conn) m.is_reused place in
     let found : find (has_number number) (state_at core).conns ≡ Some m.row = rw m.is_no (row_numbered core t ticket.want m.row h m.stands) in
     record {
       others = [];
-      looks = looks core core' t t' n n h m.limits m.journal;
+      looks = looks core core' t t' n n h' m.limits m.journal;
       stands = rw (append-nil core.journal) (m.stands ∙ ap (λ r. Served r) same);
       want = refl;
       lease = record { out = le; row = rw (m.limits, m.journal) (found ∙ ap (λ r. Some r) same); conn = sym e };
-      leaves = record { out = o; waits = refl };
+      leaves = record { out = o; waits = refl; audit_failed = refl };
     }
 
 pub leases : (core : CoreView) (t : TokensView) (w : ℕ) → SoloHolds core t → has_ticket w t.out ≡ true → has_lease w (change w leased t.out) ≡ true

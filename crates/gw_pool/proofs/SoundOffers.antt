@@ -45,7 +45,7 @@ one_among w a [] m e = absurd m
 one_among w a (x ∷ xs) (inl same) e = let here : one w x.want ≡ 1 = ap (λ (r : WantRow). one w r.want) same ∙ ap (λ n. one w n) e ∙ one_same w in omega (arith, sum_by-cons (λ (r : WantRow). one w r.want) x xs, here)
 one_among w a (x ∷ xs) (inr m) e = omega (arith, sum_by-cons (λ (r : WantRow). one w r.want) x xs, one_among w a xs m e)
 
-same_row : (w : ℕ) (a b : WantRow) (xs : List WantRow) → sum_by (λ (r : WantRow). one w r.want) xs ≤ 1 → Among a xs → Among b xs → a.want ≡ w → b.want ≡ w → a ≡ b
+pub same_row : (w : ℕ) (a b : WantRow) (xs : List WantRow) → sum_by (λ (r : WantRow). one w r.want) xs ≤ 1 → Among a xs → Among b xs → a.want ≡ w → b.want ≡ w → a ≡ b
 same_row w a b [] l m n e f = absurd m
 same_row w a b (x ∷ xs) l (inl p) (inl q) e f = sym p ∙ q
 same_row w a b (x ∷ xs) l (inl p) (inr n) e f = absurd (let here : one w x.want ≡ 1 = ap (λ (r : WantRow). one w r.want) p ∙ ap (λ k. one w k) e ∙ one_same w in omega (arith, sum_by-cons (λ (r : WantRow). one w r.want) x xs, here, one_among w b xs n f, l))

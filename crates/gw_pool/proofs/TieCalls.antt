@@ -280,7 +280,7 @@ tie_lease s out taken taken' w k l tk =
     (λ v n u. tk v n u)
 
 -- a dial that begins
-start_dials : (s : State) (row : WantRow) → (start_row s row).state.dials ≡ s.dials ++ (record { want = row.want; host = row.host; caller = row.caller }) ∷ []
+pub start_dials : (s : State) (row : WantRow) → (start_row s row).state.dials ≡ s.dials ++ (record { want = row.want; host = row.host; caller = row.caller }) ∷ []
 unfolding start_row
 start_dials s row = refl
 

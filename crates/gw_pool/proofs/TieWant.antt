@@ -232,7 +232,7 @@ place_by : (w : ℕ) (place : Place) → is_out_to w place ≡ true → 1 ≤ pl
 place_by w (Out n c) e = one_at w n e
 place_by w (Idle a b) e = absurd (cc)
 
-stage_at : (w : ℕ) (row : WantRow) → (row.want == w) ≡ true → 1 ≤ want_weight (occ_of w) row
+pub stage_at : (w : ℕ) (row : WantRow) → (row.want == w) ≡ true → 1 ≤ want_weight (occ_of w) row
 stage_at w row e = stage_by w row.stage row.want e
 
 place_at : (w : ℕ) (row : ConnRow) → is_with w row ≡ true → 1 ≤ conn_weight (occ_of w) row
@@ -287,6 +287,24 @@ pigeon (x ∷ xs) out h = pigeon_step x xs out (list_any (λ y. y == x) xs) refl
 pub few_units : (s : State) (out : List Holding) (taken : List ℕ) → Tied s out taken → length (units s 0) ≤ length out
 unfolding units
 few_units s out taken k = pigeon _ out (λ w m. none_named w s out taken k (unit_weight s 0 w m))
+
+-- the distinct numbers of a list are in it
+or_more : (a b : Bool) → b ≡ true → (a || b) ≡ true
+or_more true b h = refl
+or_more false b h = h
+
+distinct_step : (w x : ℕ) (xs : List ℕ) (b : Bool) → In w (cond b (distinct xs) (x ∷ distinct xs)) → (In w (distinct xs) → In w xs) → In w (x ∷ xs)
+distinct_step w x xs true h k = or_more (x == w) (list_any (λ y. y == w) xs) (k h)
+distinct_step w x xs false h k = elim (or_cases (x == w) (list_any (λ y. y == w) (distinct xs)) h) [ inl e ↦ rw e refl | inr m ↦ or_more (x == w) (list_any (λ y. y == w) xs) (k m) ]
+
+pub in_distinct : (w : ℕ) (xs : List ℕ) → In w (distinct xs) → In w xs
+in_distinct w [] h = h
+in_distinct w (x ∷ xs) h = distinct_step w x xs (list_any (λ y. y == x) xs) h (in_distinct w xs)
+
+-- each unit of the one caller is a want that its tokens name
+pub units_named : (s : State) (out : List Holding) (taken : List ℕ) (w : ℕ) → Tied s out taken → In w (units s 0) → find (names w) out ≡ None → ⊥
+unfolding units
+units_named s out taken w k m = none_named w s out taken k (unit_weight s 0 w (in_distinct w _ m))
 
 -- a connection whose row is found by its want is found by its number
 weighs_among : (n : ℕ) (r : ConnRow) (xs : List ConnRow) → has_number n r ≡ true → Among r xs → 1 ≤ sum_by (conn_weight (con_of n)) xs

@@ -5,16 +5,16 @@ use Rattle.gw_pool.proofs.SoloCalls.{calls, has_dial_row, dialed_enters, holds_d
 use Rattle.gw_pool.proofs.solo.SoloLeases.dialed.Goals as goal
 
 pub dialed-requires : goal.dialed-requires
-dialed-requires g c = has_dial_row c.self.inside.core c.self.inside.out c.args.d.want c.self.invariant (rw (← c.self.view_is) at c.requires)
+dialed-requires g c = has_dial_row c.self.inside.core c.self.inside.out c.args.d.want c.self.invariant (rw (← c.self.view_is) at c.requires.token)
 
 pub invariant_of-self : goal.invariant_of-self
-invariant_of-self g c = holds_dialed g.C.Link.link c.self.inside.core c.dialed.new.self c.self.inside.out c.spend_dial.new.self c.args.d.want (g.C.Link.link c.args.conn).number c.args.now c.dialed.result.close c.self.invariant c.dialed.ensures (rw (← c.self.view_is) at c.requires) c.spend_dial.ensures.out c.spend_dial.ensures.room
+invariant_of-self g c = holds_dialed g.C.Link.link c.self.inside.core c.dialed.new.self c.self.inside.out c.spend_dial.new.self c.args.d.want (g.C.Link.link c.args.conn).number c.args.now c.dialed.result.close c.self.invariant c.dialed.ensures (rw (← c.self.view_is) at c.requires.token) c.spend_dial.ensures.out c.spend_dial.ensures.room
 
 pub returns : goal.returns
-returns g c = rw (← c.self.view_is) (record {
+returns g c = rw (← c.self.view_is) (record { step = record {
   others = [];
   outcome = c.dialed.ensures.outcome;
-  calls = calls c.self.inside.core c.dialed.new.self c.self.inside.out c.spend_dial.new.self c.self.inside.waits c.self.inside.waits (call.Dialed c.args.d.want (g.C.Link.link c.args.conn).number c.args.now) c.dialed.ensures.outcome c.self.invariant (dialed_enters g.C.Link.link c.self.inside.core c.dialed.new.self c.self.inside.out c.args.d.want (g.C.Link.link c.args.conn).number c.args.now c.dialed.result.close c.self.invariant c.dialed.ensures);
+  calls = calls c.self.inside.core c.dialed.new.self c.self.inside.out c.spend_dial.new.self c.self.inside.waits c.self.inside.waits (call.Dialed c.args.d.want (g.C.Link.link c.args.conn).number c.args.now) c.dialed.ensures.outcome (invariant_of-self g c) (dialed_enters g.C.Link.link c.self.inside.core c.dialed.new.self c.self.inside.out c.args.d.want (g.C.Link.link c.args.conn).number c.args.now c.dialed.result.close c.self.invariant c.dialed.ensures);
   close = c.dialed.ensures.closes;
-  leaves = record { out = c.spend_dial.ensures.out; waits = refl };
-})
+  leaves = record { out = c.spend_dial.ensures.out; waits = refl; audit_failed = refl };
+}; stays = refl })
