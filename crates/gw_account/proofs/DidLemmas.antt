@@ -15,7 +15,7 @@ use Rattle.gw_pool.specs.Lent.{Lent}
 use Rattle.gw_pool.specs.Moments.{call_moments, entry_moments}
 use Rattle.gw_account.specs.Did.{Span, span, Wired, Pooled, Doing, Did, Went, clock_of, Runs, Pays}
 use Rattle.gw_account.specs.Laws.{StretchesFollow}
-use Rattle.gw_account.specs.Work.{Work, At, free, nothing, and, acted, behind, at_of, Idle, Seq, Only}
+use Rattle.gw_account.specs.Work.{Bill, Work, At, free, nothing, and, acted, behind, at_of, Idle, Seq, Only}
 
 pub mine_then : (one other : List Entry) (caller : ℕ) → mine (one ++ other) caller ≡ mine one caller ++ mine other caller
 mine_then one other caller = filter-append (λ entry. entry.caller == caller) one other
@@ -28,6 +28,9 @@ rose_then m n a b c p q = omega arith
 
 rose_none : (a b : ℕ) → a ≤ b → RoseBy 0 a b
 rose_none a b le = omega arith
+
+rose_less : (n a b : ℕ) → RoseBy n a b → RoseBy 0 a b
+rose_less n a b rose = omega arith
 
 -- a call on the wire that pays for nothing
 pub wired_call : (old new : WireView) (acts : List Act) (made : List Entry) → Later old new → Logs old.log new.log acts
@@ -62,7 +65,6 @@ pooled_same a w none unpaid = record {
   mine = rw none (sym (append-nil a.mine));
   fresh = λ want f. f;
   ended = refl;
-  later = omega arith;
   waits = rw unpaid (omega arith);
 }
 
@@ -76,7 +78,6 @@ pooled_then a b c u v p q = record {
       ∙ ap (λ m. a.mine ++ m) (sym (mine_then u.made v.made a.number));
   fresh = λ want f. q.fresh want (p.fresh want f);
   ended = q.ended ∙ p.ended;
-  later = (let x = p.later in let y = q.later in omega arith);
   waits = rose_then u.bill.rests v.bill.rests a.waits b.waits c.waits p.waits q.waits;
 }
 
@@ -220,7 +221,7 @@ runs_by x y a b w d = record {
   moment = d.wired.later.moment;
   ticks = d.wired.later.ticks;
   rests = d.wired.later.rests;
-  waits = d.pooled.later;
+  waits = rose_less w.bill.rests a.waits b.waits d.pooled.waits;
 }
 
 pub pays_by : (x y : WireView) (a b : Lent) (w : Work) → Doing (span x y a b) w → Pays (clock_of x a) (clock_of y b) w.bill
@@ -230,4 +231,30 @@ pays_by x y a b w d = record {
   rests = d.wired.rests;
   waits = d.pooled.waits;
   said = d.wired.said;
+}
+
+-- a stretch that is billed for what it paid
+pub doing_billed : (x y : WireView) (a b : Lent) (w : Work) (bill : Bill) → Doing (span x y a b) w → RoseBy bill.dials x.dial_faults y.dial_faults
+    → Pays (clock_of x a) (clock_of y b) bill → Doing (span x y a b) (record w { bill = bill })
+doing_billed x y a b w bill d dials p = record {
+  fresh = d.fresh;
+  wired = record {
+    later = d.wired.later;
+    log = d.wired.log;
+    dials = dials;
+    millis = p.millis;
+    ticks = p.ticks;
+    rests = p.rests;
+    said = p.said;
+  };
+  pooled = record {
+    limits = d.pooled.limits;
+    number = d.pooled.number;
+    seen = d.pooled.seen;
+    mine = d.pooled.mine;
+    fresh = d.pooled.fresh;
+    ended = d.pooled.ended;
+    waits = p.waits;
+  };
+  timed = d.timed;
 }

@@ -20,9 +20,6 @@ pub own_last : (others : List Entry) (entry : Entry) (caller : ℕ) → mine oth
 own_last others entry caller none same =
     mine_then others (entry ∷ []) caller ∙ ap (λ m. m ++ mine (entry ∷ []) caller) none ∙ rw (eq-eqb entry.caller caller same) refl
 
-rose_waits : (a b : ℕ) → a ≤ b → RoseBy 0 a b
-rose_waits a b le = omega arith
-
 pooled_called : (a b : Lent) (others : List Entry) (asked : Call) (outcome : Outcome) → Calls a b others asked outcome → b.waits ≡ a.waits
     → Pooled a b (entered (others ++ entry_of a.number asked outcome.reply ∷ []))
 pooled_called a b others asked outcome c waits =
@@ -34,11 +31,10 @@ pooled_called a b others asked outcome c waits =
       mine = c.mine ∙ ap (λ m. a.mine ++ m) (sym (own_last others entry a.number c.meets.foreign refl));
       fresh = c.meets.fresh;
       ended = c.meets.ended;
-      later = rw waits (omega arith);
       waits = rw waits (omega arith);
     }
 
-pooled_looked : (a b : Lent) (others : List Entry) → Looks a b others → a.waits ≤ b.waits → Pooled a b (entered others)
+pooled_looked : (a b : Lent) (others : List Entry) → Looks a b others → RoseBy 0 a.waits b.waits → Pooled a b (entered others)
 pooled_looked a b others l waits = record {
   limits = l.meets.limits;
   number = l.meets.number;
@@ -46,8 +42,7 @@ pooled_looked a b others l waits = record {
   mine = l.mine ∙ sym (append-nil a.mine) ∙ ap (λ m. a.mine ++ m) (sym l.meets.foreign);
   fresh = l.meets.fresh;
   ended = l.meets.ended;
-  later = waits;
-  waits = rose_waits a.waits b.waits waits;
+  waits = waits;
 }
 
 -- a call that names the moment just read
@@ -79,7 +74,7 @@ called_untimed wire a b others asked outcome fresh names c waits =
     }
 
 -- a look at the pool, which may count a wait
-pub looked : (wire : WireView) (a b : Lent) (others : List Entry) → wire.aged ≡ false → Looks a b others → a.waits ≤ b.waits
+pub looked : (wire : WireView) (a b : Lent) (others : List Entry) → wire.aged ≡ false → Looks a b others → RoseBy 0 a.waits b.waits
     → Doing (span wire wire a b) (entered others)
 looked wire a b others fresh l waits = record {
   fresh = fresh;

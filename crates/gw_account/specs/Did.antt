@@ -39,7 +39,6 @@ pub record Pooled (before after : Lent) (w : Work) : Type 0 where
   pub mine : after.mine ≡ before.mine ++ mine w.made before.number
   pub fresh : (want : ℕ) → is_among want before.fresh ≡ true → is_among want after.fresh ≡ true
   pub ended : after.ended ≡ before.ended
-  pub later : before.waits ≤ after.waits
   pub waits : RoseBy w.bill.rests before.waits after.waits
 
 -- a stretch of work was done, whatever became of the tokens: the clock was read behind its last wait, and the moments that
@@ -76,12 +75,12 @@ pub record Clock : Type 0 where
 abbrev pub clock_of : WireView → Lent → Clock
 clock_of wire lent = record { moment = wire.moment; ticks = wire.ticks; rests = wire.rests; waits = lent.waits }
 
--- none of them falls
+-- none of them falls; waits that are counted to the end of their type stand still
 pub record Runs (old new : Clock) : Type 0 where
   pub moment : old.moment ≤ new.moment
   pub ticks : old.ticks ≤ new.ticks
   pub rests : old.rests ≤ new.rests
-  pub waits : old.waits ≤ new.waits
+  pub waits : RoseBy 0 old.waits new.waits
 
 -- they rise by what a bill owes at least; a count at the end of its type pays all
 pub record Pays (old new : Clock) (bill : Bill) : Type 0 where
