@@ -1,4 +1,5 @@
 pub mod Births
+pub mod Facts
 pub mod Members
 pub mod Moments
 pub mod Passing

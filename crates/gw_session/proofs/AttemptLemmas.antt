@@ -9,7 +9,7 @@ use Rattle.gw_wire.specs.Acts.{Logs}
 use Rattle.gw_wire.specs.Link.{LinkView}
 use Rattle.gw_wire.specs.Stretch.{Told, Then, Acts}
 use Rattle.gw_wire.specs.Wire.{WireView}
-use Rattle.gw_wire.proofs.StretchLemmas.{Told-map, Told-then, Told-acts}
+use Rattle.gw_wire.proofs.Facts.{Told-map, Told-then, Told-acts}
 use Rattle.gw_head.specs.declared.error.HeadError.{HeadError}
 use Rattle.gw_head.specs.declared.reply.ReplyHead.{ReplyHead}
 use Rattle.gw_head.specs.Head.{ReplyHeadOf, BadReplyHead}

@@ -7,7 +7,7 @@ use Rattle.gw_wire.specs.Causes.{RoseBy}
 use Rattle.gw_wire.specs.Link.{LinkView}
 use Rattle.gw_wire.specs.Stretch.{Told, Then, Acts}
 use Rattle.gw_wire.specs.Wire.{WireView, CloseStep}
-use Rattle.gw_wire.proofs.StretchLemmas.{Logs-none, Told-acts, Told-then}
+use Rattle.gw_wire.proofs.Facts.{Logs-none, Told-acts, Told-then, later_same, later_then, rises_from}
 use Rattle.gw_pool.specs.declared.entry.Entry.{Entry}
 use Rattle.gw_pool.specs.declared.leases.Lease.{Lease}
 use Rattle.gw_pool.specs.History.{after}
@@ -18,15 +18,14 @@ use Rattle.gw_session.specs.declared.exchange.Answer.TheVariants as answer
 use Rattle.gw_session.specs.declared.lease.Leased.TheVariants as leased
 use Rattle.gw_session.specs.Attempt.{Attempts, attempt_waits, is_reusable}
 use Rattle.gw_session.specs.Exchange.{Course, Exchanged}
-use Rattle.gw_session.specs.Gone.{gone_links}
+use Rattle.gw_pool.specs.Gone.{gone_links}
 use Rattle.gw_session.specs.Leased.{EndStep, HasLink, IsClearing, IsEnding, LeasedStep, Reaches, closes}
-use Rattle.gw_session.specs.Moments.{Rises, entry_moments}
+use Rattle.gw_wire.specs.Moments.{Rises}
+use Rattle.gw_pool.specs.Moments.{entry_moments}
 use Rattle.gw_session.specs.Resting.{IsLeased, IsRested, Grows}
 use Rattle.gw_session.specs.Waits.{GoesOn}
 use Rattle.gw_session.proofs.LeaseLemmas.{gone_behind, grown_none, timed_then}
 use Rattle.gw_session.proofs.PoolLemmas.{grows_then}
-use Rattle.gw_session.proofs.SayLemmas.{rises_from}
-use Rattle.gw_session.proofs.WaitLemmas.{later_same, later_then}
 
 -- the close of a link behind a stretch
 pub then_closed : (old : Option (List Act)) (mid new : WireView) (k : ℕ) (P : List Act → Type 0) → Told old mid.log P → CloseStep mid new k
@@ -55,9 +54,9 @@ pub tried_done : {C : Type 0} (link : C → LinkView) (old mid tried new : WireV
 tried_done link old mid tried new a b c host backend text method l at to result reusable lent goes its waited told e end =
     let x = lent.does in
     let way = x.3 in
-    let cleared = gone_links a.limits a.seen lent.clearing in
+    let cleared = gone_links a.limits a.seen 0 lent.clearing in
     let seen = a.seen ++ (lent.clearing ++ lent.leasing) in
-    let left = gone_links a.limits seen end.ending in
+    let left = gone_links a.limits seen 0 end.ending in
     let course : Course = record { made = (lent.clearing ++ lent.leasing) ++ end.ending; cleared = cleared; link = l.link; dialed = way.0; left = left } in
     let number : at.number ≡ l.link = ap (λ (v : LinkView). v.number) its ∙ x.2.lease.conn in
     let R : ℕ → Type 0 = λ k. Told mid.log tried.log (Attempts k text method result) in
@@ -102,7 +101,7 @@ unreachable_done link old new a b host backend text method lent =
       later = lent.later;
       fresh = lent.fresh;
       rested = x.2;
-      course = record { made = lent.clearing ++ lent.leasing; cleared = gone_links a.limits a.seen lent.clearing; link = 0; dialed = false; left = [] };
+      course = record { made = lent.clearing ++ lent.leasing; cleared = gone_links a.limits a.seen 0 lent.clearing; link = 0; dialed = false; left = [] };
       makes = record {
         clearing = lent.clearing;
         leasing = lent.leasing;
@@ -136,7 +135,7 @@ full_done link old new a b host backend text method lent =
       later = lent.later;
       fresh = lent.fresh;
       rested = x.2;
-      course = record { made = lent.clearing; cleared = gone_links a.limits a.seen lent.clearing; link = 0; dialed = false; left = [] };
+      course = record { made = lent.clearing; cleared = gone_links a.limits a.seen 0 lent.clearing; link = 0; dialed = false; left = [] };
       makes = record { count = lent.count; clears = lent.clears; few = x.0; full = x.1; cleared_are = refl };
       grows = only a b lent.clearing lent.leasing x.3 lent.grows;
       timed = only_timed old.moment new.moment lent.clearing lent.leasing x.3 lent.timed;
@@ -154,7 +153,7 @@ late_done link old new a b host backend text method lent =
       later = lent.later;
       fresh = lent.fresh;
       rested = x.1;
-      course = record { made = lent.clearing; cleared = gone_links a.limits a.seen lent.clearing; link = 0; dialed = false; left = [] };
+      course = record { made = lent.clearing; cleared = gone_links a.limits a.seen 0 lent.clearing; link = 0; dialed = false; left = [] };
       makes = record { clears = subst P x.0 lent.clears; cleared_are = refl };
       grows = only a b lent.clearing lent.leasing x.2 lent.grows;
       timed = only_timed old.moment new.moment lent.clearing lent.leasing x.2 lent.timed;

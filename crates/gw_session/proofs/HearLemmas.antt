@@ -8,7 +8,7 @@ use Rattle.gw_wire.specs.Acts.{Logs}
 use Rattle.gw_wire.specs.Link.{LinkView}
 use Rattle.gw_wire.specs.Stretch.{Told, Then, Acts}
 use Rattle.gw_wire.specs.Wire.{WireView}
-use Rattle.gw_wire.proofs.StretchLemmas.{Logs-none, Told-map, Told-then, Told-acts}
+use Rattle.gw_wire.proofs.Facts.{Logs-none, Told-map, Told-then, Told-acts, later_then, link_then}
 use Rattle.gw_head.specs.declared.error.HeadError.{HeadError}
 use Rattle.gw_head.specs.declared.request.RequestHead.{RequestHead}
 use Rattle.gw_head.specs.Head.{RequestHeadOf, BadRequestHead}
@@ -19,7 +19,6 @@ use Rattle.gw_session.specs.declared.waits.Heard.{Heard}
 use Rattle.gw_session.specs.declared.waits.Loss.{Loss}
 use Rattle.gw_session.specs.Hearing.{HearsWhile, HearsHead, Began, HearsRequest, Hearing, IsRefusedRequest}
 use Rattle.gw_session.specs.Waits.{HeardStep, GoesOn, loss_acts}
-use Rattle.gw_session.proofs.WaitLemmas.{later_then, link_then}
 
 -- one more read, where what came so far wanted it
 pub hears_more : (P : List ℕ → Type 0) (k : ℕ) (kept bytes piece : List ℕ) (acts : List Act) → HearsWhile P k kept bytes acts → P bytes

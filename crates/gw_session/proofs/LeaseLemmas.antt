@@ -10,7 +10,7 @@ use Rattle.gw_wire.specs.DialStep.{DialStep}
 use Rattle.gw_wire.specs.Link.{LinkView}
 use Rattle.gw_wire.specs.Stretch.{Told, Then, Acts}
 use Rattle.gw_wire.specs.Wire.{WireView, CloseStep, NowStep}
-use Rattle.gw_wire.proofs.StretchLemmas.{Logs-none, Told-map, Told-acts, Told-then, Told-before_quiet}
+use Rattle.gw_wire.proofs.Facts.{Logs-none, Told-map, Told-acts, Told-then, Told-before_quiet, later_same, later_then, rises_from, rises_then, rises_to}
 use Rattle.gw_pool.specs.declared.entry.Call.TheVariants as call
 use Rattle.gw_pool.specs.declared.entry.Entry.{Entry}
 use Rattle.gw_pool.specs.declared.entry.Reply.{Reply}
@@ -20,19 +20,18 @@ use Rattle.gw_pool.specs.declared.leases.Lease.{Lease}
 use Rattle.gw_pool.specs.declared.leases.Put.{Put}
 use Rattle.gw_pool.specs.declared.leases.Ticket.{Ticket}
 use Rattle.gw_pool.specs.declared.rows.ConnRow.{ConnRow}
-use Rattle.gw_pool.specs.History.{is_full}
+use Rattle.gw_pool.specs.History.{refuses}
 use Rattle.gw_pool.specs.Lent as pool
 use Rattle.gw_pool.specs.Lent.{Lent, WantMade, WantExpired, WantFull, StartGo, DialFailedStep, AskTaken, AskGranted, AskNotYet, AskFailed, DropStep, BackStep, IdleStep, entry_of}
 use Rattle.gw_session.specs.declared.lease.Leased.{Leased}
 use Rattle.gw_session.specs.declared.lease.Leased.TheVariants as leased
 use Rattle.gw_session.specs.declared.lease.Wanted.TheVariants as wanted
-use Rattle.gw_session.specs.Gone.{gone_links, number_of}
+use Rattle.gw_pool.specs.Gone.{gone_links, number_of}
 use Rattle.gw_session.specs.Leased.{AreExpired, LeftStep, Clears, ClearStep, WantedStep, DialedStep, TakenBy, TakenStep, DialsTo, DialFails, closes}
-use Rattle.gw_session.specs.Moments.{Rises, call_moments, entry_moments}
+use Rattle.gw_wire.specs.Moments.{Rises}
+use Rattle.gw_pool.specs.Moments.{call_moments, entry_moments}
 use Rattle.gw_session.specs.Resting.{IsRested, IsGranted, IsServed, IsSpent, Grows, WantsBy, expired_entry, made_dialed, made_failed}
 use Rattle.gw_session.proofs.PoolLemmas.{was_cleared, was_overdue, was_wanted, was_full, may_dial, taken_granted, waiting_granted, failed_granted, went, was_kept, has_ended, was_taken, granted_served, waiting_served, failed_served, was_spent, taken_spent, granted_spent, waiting_spent, gone_then, grows_then, grows_quiet, Kept}
-use Rattle.gw_session.proofs.SayLemmas.{rises_from, rises_then, rises_to}
-use Rattle.gw_session.proofs.WaitLemmas.{later_same, later_then}
 
 pub grown_none : (a : Lent) → Grows a a []
 grown_none a = record { limits = refl; seen = sym (append-nil a.seen); mine = sym (append-nil a.mine) }
@@ -63,11 +62,11 @@ told_closes old mid new x y p q =
     (Told-then old mid new (Acts (closes x)) (Acts (closes y)) p q)
 
 -- what leaves the pool behind entries that were made
-pub gone_behind : (a b : Lent) (x y : List Entry) → Grows a b x → gone_links b.limits b.seen y ≡ gone_links a.limits (a.seen ++ x) y
-gone_behind a b x y g = ap (λ m. gone_links m b.seen y) g.limits ∙ ap (λ h. gone_links a.limits h y) g.seen
+pub gone_behind : (a b : Lent) (x y : List Entry) → Grows a b x → gone_links b.limits b.seen 0 y ≡ gone_links a.limits (a.seen ++ x) 0 y
+gone_behind a b x y g = ap (λ m. gone_links m b.seen 0 y) g.limits ∙ ap (λ h. gone_links a.limits h 0 y) g.seen
 
-pub full_behind : (a b : Lent) (x : List Entry) → Grows a b x → is_full b.limits b.seen ≡ is_full a.limits (a.seen ++ x)
-full_behind a b x g = ap (λ m. is_full m b.seen) g.limits ∙ ap (λ h. is_full a.limits h) g.seen
+pub full_behind : (a b : Lent) (x : List Entry) → Grows a b x → refuses b.limits b.seen ≡ refuses a.limits (a.seen ++ x)
+full_behind a b x g = ap (λ m. refuses m b.seen) g.limits ∙ ap (λ h. refuses a.limits h) g.seen
 
 pub clears_none : (wire : WireView) (a : Lent) → wire.aged ≡ false → IsRested a → Clears wire wire a a []
 clears_none wire a fresh r = record {
@@ -87,8 +86,8 @@ timed_then a b c x y p q =
 
 pub clears_then : (old mid new : WireView) (a b c : Lent) (x y : List Entry) → Clears old mid a b x → Clears mid new b c y → Clears old new a c (x ++ y)
 clears_then old mid new a b c x y p q =
-    let first = gone_links a.limits a.seen x in
-    let both : first ++ gone_links b.limits b.seen y ≡ gone_links a.limits a.seen (x ++ y) =
+    let first = gone_links a.limits a.seen 0 x in
+    let both : first ++ gone_links b.limits b.seen 0 y ≡ gone_links a.limits a.seen 0 (x ++ y) =
     ap (λ l. first ++ l) (gone_behind a b x y p.grows) ∙ sym (gone_then a.limits a.seen x y) in
     let P : List ℕ → Type 0 = λ l. Told old.log new.log (Acts (closes l)) in
     record {
@@ -97,7 +96,7 @@ clears_then old mid new a b c x y p q =
       rested = q.rested;
       grows = grows_then a b c x y p.grows q.grows;
       timed = timed_then old.moment mid.moment new.moment x y p.timed q.timed;
-      log = subst P both (told_closes old.log mid.log new.log first (gone_links b.limits b.seen y) p.log q.log);
+      log = subst P both (told_closes old.log mid.log new.log first (gone_links b.limits b.seen 0 y) p.log q.log);
     }
 
 rises_between : (a b : ℕ) (made : List Entry) (first final : ℕ) → first ≤ a → b ≤ final → Rises a (entry_moments made) b → Rises first (entry_moments made) final

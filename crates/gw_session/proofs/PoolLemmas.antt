@@ -2,6 +2,7 @@
 use Rattle.std.proofs.Common.{◌≡◌, ℕ, ◌+◌, ◌<◌, ◌==◌, inl, inr, Bool, true, false, List, [], ◌∷◌, ◌++◌, cond, find, Option, Some, None, refl, ap, sym, ◌∙◌, subst, arith, append-nil, append_assoc}
 use Rattle.std.proofs.lemmas.Bool.{eq-eqb}
 use Rattle.std.proofs.lemmas.List.Elements.{All-head, All-tail, All-nil}
+use Rattle.std.specs.List.{list_all}
 use Rattle.gw_wire.specs.Link.{LinkView}
 use Rattle.gw_pool.specs.declared.entry.Call.{Call}
 use Rattle.gw_pool.specs.declared.entry.Call.TheVariants as call
@@ -17,25 +18,27 @@ use Rattle.gw_pool.specs.declared.limits.Limits.{Limits}
 use Rattle.gw_pool.specs.declared.rows.ConnRow.{ConnRow}
 use Rattle.gw_pool.specs.declared.rows.Place.TheVariants.{Out}
 use Rattle.gw_pool.specs.Closes.{IsOf, Closes}
-use Rattle.gw_pool.specs.History.{AreBelow, after, mine, is_full}
+use Rattle.gw_pool.specs.History.{AreBelow, after, mine, refuses}
 use Rattle.gw_pool.specs.Lent as pool
 use Rattle.gw_pool.specs.Lent.{Lent, Meets, Calls, Looks, Leaves, LeaseOf, entry_of, row_of, IsMade}
 use Rattle.gw_pool.specs.Machine.{Outcome, step, Standing, standing, MayDial, NotServed, NotComing, Served}
+use Rattle.gw_pool.specs.Shelf.{is_among}
 use Rattle.gw_pool.specs.State.{State, has_number, rests}
-use Rattle.gw_pool.specs.Tokens.{change, ticket_of, with_dial, without_dial, without_ticket, leased, without_lease}
-use Rattle.gw_session.specs.Gone.{link_of, left_by, gone_links, number_of}
-use Rattle.gw_session.specs.Moments.{Rises, entry_moments}
+use Rattle.gw_pool.specs.Tokens.{names, change, ticket_of, with_dial, without_dial, without_ticket, leased, without_lease}
+use Rattle.gw_pool.specs.Gone.{link_of, left_by, gone_links, number_of}
+use Rattle.gw_wire.specs.Moments.{Rises}
+use Rattle.gw_pool.specs.Moments.{entry_moments}
 use Rattle.gw_session.specs.Resting.{resting, granted, dialing, lending, Stands, IsRested, IsGranted, IsDialing, IsSpent, IsServed, IsLent, IsLeased, Grows, IsExpiring, WantsBy, lent_to, expired_entry, made_drop, made_back}
 use Rattle.gw_session.proofs.PoolSteps.{Rests, WantOutcome, AsGranted, AsExpired, AsGiven, conn_row, want_outcome, start_step_is, dialed_step_is, failed_step_is, drop_outcome, back_outcome, expire_outcome, granted_stands, resting_stands, lending_stands}
 
 -- growth
-pub gone_then : (limits : Limits) (history x y : List Entry) → gone_links limits history (x ++ y) ≡ gone_links limits history x ++ gone_links limits (history ++ x) y
-gone_then limits history [] y = ap (λ h. gone_links limits h y) (sym (append-nil history))
+pub gone_then : (limits : Limits) (history x y : List Entry) → gone_links limits history 0 (x ++ y) ≡ gone_links limits history 0 x ++ gone_links limits (history ++ x) 0 y
+gone_then limits history [] y = ap (λ h. gone_links limits h 0 y) (sym (append-nil history))
 gone_then limits history (e ∷ x) y =
-    let here = left_by (step limits (after limits history) e.caller e.call) in
+    let here = cond (e.caller == 0) (left_by (step limits (after limits history) e.caller e.call)) [] in
     ap (λ l. here ++ l) (gone_then limits (history ++ e ∷ []) x y)
-    ∙ ap (λ h. here ++ (gone_links limits (history ++ e ∷ []) x ++ gone_links limits h y)) (append_assoc history (e ∷ []) x)
-    ∙ sym (append_assoc here (gone_links limits (history ++ e ∷ []) x) (gone_links limits (history ++ e ∷ x) y))
+    ∙ ap (λ h. here ++ (gone_links limits (history ++ e ∷ []) 0 x ++ gone_links limits h 0 y)) (append_assoc history (e ∷ []) x)
+    ∙ sym (append_assoc here (gone_links limits (history ++ e ∷ []) 0 x) (gone_links limits (history ++ e ∷ x) 0 y))
 
 pub grows_then : (a b c : Lent) (x y : List Entry) → Grows a b x → Grows b c y → Grows a c (x ++ y)
 grows_then a b c x y p q = record {
@@ -74,7 +77,8 @@ pub record Called (old new : Lent) (s : State) (asked : Call) (outcome : Outcome
   pub fits : step old.limits s 0 asked ≡ Some outcome
   pub stands : Stands new outcome.state tokens
   pub grows : Grows old new (entry_of 0 asked outcome.reply ∷ [])
-  pub gone : gone_links old.limits old.seen (entry_of 0 asked outcome.reply ∷ []) ≡ link_of outcome.gone
+  pub fresh : (want : ℕ) → is_among want old.fresh ≡ true → is_among want new.fresh ≡ true
+  pub gone : gone_links old.limits old.seen 0 (entry_of 0 asked outcome.reply ∷ []) ≡ link_of outcome.gone
 
 none_else : (old new : Lent) (s : State) (out : List Holding) (others : List Entry) (asked : Call) (outcome : Outcome) → Stands old s out
     → Calls old new others asked outcome → old.seen ++ others ≡ old.seen
@@ -96,12 +100,14 @@ called old new s out tokens others asked outcome count st c l =
     let entry : entry_of old.number asked outcome.reply ≡ entry_of 0 asked outcome.reply = ap (λ n. entry_of n asked outcome.reply) st.number in
     record {
       fits = fits;
+      fresh = c.meets.fresh;
       stands = record {
         state = ap (λ m. after m new.seen) c.meets.limits ∙ c.state;
         tokens = l.out;
         number = c.meets.number ∙ st.number;
         alone = ap (λ m. m.passes) c.meets.limits ∙ st.alone;
         one = rw c.meets.limits st.one;
+        running = c.meets.ended ∙ st.running;
       };
       grows = record {
         limits = c.meets.limits;
@@ -122,6 +128,7 @@ called_as old new s asked outcome o tokens d f =
 
 -- a call that makes none
 pub record Looked (old new : Lent) (s : State) (tokens : List Holding) : Type 0 where
+  pub fresh : (want : ℕ) → is_among want old.fresh ≡ true → is_among want new.fresh ≡ true
   pub stands : Stands new s tokens
   pub grows : Grows old new []
 
@@ -137,12 +144,14 @@ looked old new s out tokens others count st c l =
     let none = nobody_else old new s out others [] st c.meets (c.seen ∙ sym (append-nil (old.seen ++ others))) in
     let same : new.seen ≡ old.seen = c.seen ∙ ap (λ m. old.seen ++ m) none ∙ append-nil old.seen in
     record {
+      fresh = c.meets.fresh;
       stands = record {
         state = ap (λ m. after m new.seen) c.meets.limits ∙ ap (λ m. after old.limits m) same ∙ st.state;
         tokens = l.out;
         number = c.meets.number ∙ st.number;
         alone = ap (λ m. m.passes) c.meets.limits ∙ st.alone;
         one = rw c.meets.limits st.one;
+        running = c.meets.ended ∙ st.running;
       };
       grows = record {
         limits = c.meets.limits;
@@ -209,7 +218,7 @@ pub record Cleared {C : Type 0} (link : C → LinkView) (old new : Lent) (now : 
   pub expiring : IsExpiring made
   pub grows : Grows old new made
   pub rested : IsRested new
-  pub gone : gone_links old.limits old.seen made ≡ number_of link result
+  pub gone : gone_links old.limits old.seen 0 made ≡ number_of link result
 
 pub was_cleared : {C : Type 0} (link : C → LinkView) (old new : Lent) (now : ℕ) (result : Option C)
     → IsRested old → pool.IdleStep link old new (call.Expire now) result → Cleared link old new now result
@@ -233,14 +242,14 @@ pub record Overdue {C : Type 0} (link : C → LinkView) (old new : Lent) (host n
   pub number : ℕ
   pub grows : Grows old new (expired_entry host now number ∷ [])
   pub rested : IsRested new
-  pub room : is_full old.limits old.seen ≡ false
-  pub gone : gone_links old.limits old.seen (expired_entry host now number ∷ []) ≡ (link conn).number ∷ []
+  pub room : refuses old.limits old.seen ≡ false
+  pub gone : gone_links old.limits old.seen 0 (expired_entry host now number ∷ []) ≡ (link conn).number ∷ []
 
 none_left : {C : Type 0} (link : C → LinkView) (conn : C) (left : Option ConnRow) → left ≡ None → IsOf link conn left → ⊥
 none_left link conn left e h = let P : Option ConnRow → Type 0 = λ o. IsOf link conn o in subst P e h
 
 overdue_by : {C : Type 0} (link : C → LinkView) (old new : Lent) (host now : ℕ) (conn : C) (v : IsRested old) (o : Outcome) → WantOutcome v.rows host v.want v.conn v.stamp o
-    → IsOf link conn o.gone → Called old new (resting v.rows v.want v.conn v.stamp) (call.Want host now) o old.out → is_full old.limits old.seen ≡ false
+    → IsOf link conn o.gone → Called old new (resting v.rows v.want v.conn v.stamp) (call.Want host now) o old.out → refuses old.limits old.seen ≡ false
     → Overdue link old new host now conn
 overdue_by link old new host now conn v o (AsGranted e) g d r = absurd (none_left link conn o.gone (ap (λ (x : Outcome). x.gone) e) g)
 overdue_by link old new host now conn v o (AsGiven x) g d r = absurd (none_left link conn o.gone (ap (λ (y : Outcome). y.gone) x.same) g)
@@ -262,7 +271,7 @@ was_overdue link old new host now conn v m =
     let s = resting v.rows v.want v.conn v.stamp in
     let done = called old new s [] old.out m.others (call.Want host now) m.outcome old.waits v.stands m.calls m.leaves in
     let known = want_outcome old.limits v.rows host v.want v.conn v.stamp now m.outcome v.idle done.fits in
-    let room = ap (λ l. is_full old.limits l) (sym (none_else old new s [] m.others (call.Want host now) m.outcome v.stands m.calls)) ∙ m.room in
+    let room = ap (λ l. refuses old.limits l) (sym (none_else old new s [] m.others (call.Want host now) m.outcome v.stands m.calls)) ∙ m.room in
     overdue_by link old new host now conn v m.outcome known m.close done room
 
 -- a want that was made
@@ -270,15 +279,16 @@ pub record Wanted (old new : Lent) (host now want : ℕ) : Type 0 where
   pub answer : Reply
   pub grows : Grows old new (entry_of 0 (call.Want host now) answer ∷ [])
   pub by : WantsBy new want answer
-  pub room : is_full old.limits old.seen ≡ false
+  pub room : refuses old.limits old.seen ≡ false
 
 not_made : (want : ℕ) (o p : Outcome) → o ≡ p → IsMade want o.reply → IsMade want p.reply
 not_made want o p e h = let P : Outcome → Type 0 = λ x. IsMade want x.reply in subst P e h
 
 wanted_by : (old new : Lent) (host now want : ℕ) (v : IsRested old) (o : Outcome) → WantOutcome v.rows host v.want v.conn v.stamp o → IsMade want o.reply
-    → Called old new (resting v.rows v.want v.conn v.stamp) (call.Want host now) o (ticket_of want ∷ []) → is_full old.limits old.seen ≡ false → Wanted old new host now want
-wanted_by old new host now want v o (AsExpired x) i d r = absurd (not_made want o _ x.same i)
-wanted_by old new host now want v o (AsGranted e) i d r =
+    → Called old new (resting v.rows v.want v.conn v.stamp) (call.Want host now) o (ticket_of want ∷ []) → refuses old.limits old.seen ≡ false
+    → is_among want new.fresh ≡ true → Wanted old new host now want
+wanted_by old new host now want v o (AsExpired x) i d r f = absurd (not_made want o _ x.same i)
+wanted_by old new host now want v o (AsGranted e) i d r f =
     let made : v.want ≡ want = not_made want o _ e i in
     let P : Outcome → Type 0 = λ y. Called old new (resting v.rows v.want v.conn v.stamp) (call.Want host now) y (ticket_of want ∷ []) in
     let Q : ℕ → Type 0 = λ n. Stands new (granted v.rows host n v.conn v.stamp) (ticket_of want ∷ []) in
@@ -286,10 +296,10 @@ wanted_by old new host now want v o (AsGranted e) i d r =
     record {
       answer = reply.Granted v.want;
       grows = done.grows;
-      by = (made, record { rows = v.rows; host = host; conn = v.conn; stamp = v.stamp; idle = v.idle; stands = subst Q made done.stands });
+      by = (made, record { rows = v.rows; host = host; conn = v.conn; stamp = v.stamp; idle = v.idle; fresh = f; stands = subst Q made done.stands });
       room = r;
     }
-wanted_by old new host now want v o (AsGiven x) i d r =
+wanted_by old new host now want v o (AsGiven x) i d r f =
     let made : v.want ≡ want = not_made want o _ x.same i in
     let P : Outcome → Type 0 = λ y. Called old new (resting v.rows v.want v.conn v.stamp) (call.Want host now) y (ticket_of want ∷ []) in
     let done = subst P x.same d in
@@ -297,7 +307,7 @@ wanted_by old new host now want v o (AsGiven x) i d r =
     record {
       answer = reply.Given v.want x.row.conn;
       grows = done.grows;
-      by = (made, (row, refl, record { rows = x.left; next = v.want + 1; conn = v.conn; stamp = v.stamp; place = ap (λ n. Out n 0) made; idle = x.idle; stands = done.stands }));
+      by = (made, (row, refl, record { rows = x.left; next = v.want + 1; conn = v.conn; stamp = v.stamp; place = ap (λ n. Out n 0) made; idle = x.idle; fresh = f; stands = done.stands }));
       room = r;
     }
 
@@ -306,16 +316,16 @@ was_wanted old new t host now v m =
     let s = resting v.rows v.want v.conn v.stamp in
     let done = called old new s [] (old.out ++ ticket_of t.want ∷ []) m.others (call.Want host now) m.outcome old.waits v.stands m.calls m.leaves in
     let known = want_outcome old.limits v.rows host v.want v.conn v.stamp now m.outcome v.idle done.fits in
-    let room = ap (λ l. is_full old.limits l) (sym (none_else old new s [] m.others (call.Want host now) m.outcome v.stands m.calls)) ∙ m.room in
+    let room = ap (λ l. refuses old.limits l) (sym (none_else old new s [] m.others (call.Want host now) m.outcome v.stands m.calls)) ∙ m.room in
     let P : List Holding → Type 0 = λ l. Called old new s (call.Want host now) m.outcome (l ++ ticket_of t.want ∷ []) in
-    wanted_by old new host now t.want v m.outcome known m.made (subst P v.stands.tokens done) room
+    wanted_by old new host now t.want v m.outcome known m.made (subst P v.stands.tokens done) room m.fresh
 
 -- a want for which the journal has no room
-pub was_full : (old new : Lent) → IsRested old → pool.WantFull old new → (is_full old.limits old.seen ≡ true) × IsRested new × Grows old new []
+pub was_full : (old new : Lent) → IsRested old → pool.WantFull old new → (refuses old.limits old.seen ≡ true) × IsRested new × Grows old new []
 was_full old new v m =
     let done = looked old new (resting v.rows v.want v.conn v.stamp) [] old.out m.others old.waits v.stands m.looks m.leaves in
     let same : new.seen ≡ old.seen = done.grows.seen ∙ append-nil old.seen in (
-      ap (λ l. is_full old.limits l) (sym same) ∙ ap (λ l. is_full l new.seen) (sym done.grows.limits) ∙ m.full,
+      ap (λ l. refuses old.limits l) (sym same) ∙ ap (λ l. refuses l new.seen) (sym done.grows.limits) ∙ m.full,
       still_rested old new v old.out v.stands.tokens done.stands,
       done.grows,
     )
@@ -324,18 +334,22 @@ was_full old new v m =
 pub may_dial : (old new : Lent) (t back : Ticket) → IsGranted old t.want → pool.AskGranted old new t back → IsGranted new t.want × Grows old new []
 may_dial old new t back v m =
     let done = looked old new (granted v.rows v.host t.want v.conn v.stamp) (ticket_of t.want ∷ []) old.out m.others old.waits v.stands m.looks m.leaves in
-    (record { rows = v.rows; host = v.host; conn = v.conn; stamp = v.stamp; idle = v.idle; stands = with_tokens new _ old.out _ v.stands.tokens done.stands }, done.grows)
+    (record { rows = v.rows; host = v.host; conn = v.conn; stamp = v.stamp; idle = v.idle; fresh = done.fresh t.want v.fresh; stands = with_tokens new _ old.out _ v.stands.tokens done.stands }, done.grows)
 
 granted_so : (old new : Lent) (w : ℕ) (others : List Entry) (answer : Standing) (v : IsGranted old w) → Looks old new others
     → standing (after old.limits (old.seen ++ others)) w ≡ answer → MayDial ≡ answer
 granted_so old new w others answer v c e =
     stands_else old new (granted v.rows v.host w v.conn v.stamp) (ticket_of w ∷ []) others w MayDial answer v.stands c (granted_stands v.rows v.host w v.conn v.stamp v.idle) e
 
+-- no token of another want is out
+only_token : (old : Lent) (w : ℕ) → old.out ≡ ticket_of w ∷ [] → list_all (names w) old.out ≡ true
+only_token old w e = rw (e, eq-eqb w w refl) refl
+
 pub taken_granted : {C : Type 0} (link : C → LinkView) (old new : Lent) (t : Ticket) (l : Lease C) → IsGranted old t.want → pool.AskTaken link old new t l → ⊥
 taken_granted link old new t l v m = let bad : MayDial ≡ Served (row_of old.number l) = granted_so old new t.want m.others _ v m.looks m.stands in cc
 
 pub waiting_granted : (old new : Lent) (t back : Ticket) → IsGranted old t.want → pool.AskNotYet old new t back → ⊥
-waiting_granted old new t back v m = let bad : MayDial ≡ NotServed = granted_so old new t.want m.others _ v m.looks m.stands in cc
+waiting_granted old new t back v m = let bad : MayDial ≡ NotServed = granted_so old new t.want m.others _ v m.looks (m.stands v.fresh (only_token old t.want v.stands.tokens)) in cc
 
 pub failed_granted : (old new : Lent) (t : Ticket) → IsGranted old t.want → pool.AskFailed old new t → ⊥
 failed_granted old new t v m = let bad : MayDial ≡ NotComing = granted_so old new t.want m.others _ v m.looks m.stands in cc
@@ -348,7 +362,7 @@ went old new t d v m =
     let made = called old new s (ticket_of t.want ∷ []) (change t.want with_dial old.out) m.others (call.Start t.want) m.outcome old.waits v.stands m.calls m.leaves in
     let done = called_as old new s (call.Start t.want) m.outcome _ (change t.want with_dial old.out) made (start_step_is old.limits v.rows v.host t.want v.conn v.stamp) in
     let out = ap (λ l. change t.want with_dial l) v.stands.tokens ∙ with_token t.want in
-    (record { rows = v.rows; host = v.host; conn = v.conn; stamp = v.stamp; idle = v.idle; stands = with_tokens new _ _ _ out done.stands }, done.grows, m.want)
+    (record { rows = v.rows; host = v.host; conn = v.conn; stamp = v.stamp; idle = v.idle; fresh = done.fresh t.want v.fresh; stands = with_tokens new _ _ _ out done.stands }, done.grows, m.want)
 
 pub may_start : (old new : Lent) (t : Ticket) → IsGranted old t.want → pool.StartNot old new t → ⊥
 may_start old new t v m =
@@ -387,6 +401,7 @@ was_kept link old new d number now w put e v m =
         stamp = v.stamp;
         place = refl;
         idle = v.idle;
+        fresh = done.fresh w v.fresh;
         stands = with_tokens new _ _ _ (dial_back old d w e v.stands.tokens) done.stands;
       };
       grows = done.grows;
@@ -401,7 +416,7 @@ has_ended old new d w e v m =
     let tokens = change d.want without_dial old.out in
     let made = called old new s (with_dial (ticket_of w) ∷ []) tokens m.others (call.DialFailed w) m.outcome old.waits v.stands (subst P e m.calls) m.leaves in
     let done = called_as old new s (call.DialFailed w) m.outcome _ tokens made (failed_step_is old.limits v.rows v.host w v.conn v.stamp) in
-    (record { rows = v.rows; next = w + 1; conn = v.conn; stamp = v.stamp; idle = v.idle; stands = with_tokens new _ _ _ (dial_back old d w e v.stands.tokens) done.stands }, done.grows)
+    (record { rows = v.rows; next = w + 1; conn = v.conn; stamp = v.stamp; idle = v.idle; fresh = done.fresh w v.fresh; stands = with_tokens new _ _ _ (dial_back old d w e v.stands.tokens) done.stands }, done.grows)
 
 -- how a want stands that a connection is out to
 served_so : (old new : Lent) (w : ℕ) (row : ConnRow) (others : List Entry) (answer : Standing) (v : IsServed old w row) → Looks old new others
@@ -434,7 +449,7 @@ pub granted_served : (old new : Lent) (t back : Ticket) (row : ConnRow) → IsSe
 granted_served old new t back row v m = let bad : Served row ≡ MayDial = served_so old new t.want row m.others _ v m.looks m.stands in cc
 
 pub waiting_served : (old new : Lent) (t back : Ticket) (row : ConnRow) → IsServed old t.want row → pool.AskNotYet old new t back → ⊥
-waiting_served old new t back row v m = let bad : Served row ≡ NotServed = served_so old new t.want row m.others _ v m.looks m.stands in cc
+waiting_served old new t back row v m = let bad : Served row ≡ NotServed = served_so old new t.want row m.others _ v m.looks (m.stands v.fresh (only_token old t.want v.stands.tokens)) in cc
 
 pub failed_served : (old new : Lent) (t : Ticket) (row : ConnRow) → IsServed old t.want row → pool.AskFailed old new t → ⊥
 failed_served old new t row v m = let bad : Served row ≡ NotComing = served_so old new t.want row m.others _ v m.looks m.stands in cc
@@ -458,7 +473,7 @@ pub granted_spent : (old new : Lent) (t back : Ticket) → IsSpent old t.want �
 granted_spent old new t back v m = let bad : NotComing ≡ MayDial = spent_so old new t.want m.others _ v m.looks m.stands in cc
 
 pub waiting_spent : (old new : Lent) (t back : Ticket) → IsSpent old t.want → pool.AskNotYet old new t back → ⊥
-waiting_spent old new t back v m = let bad : NotComing ≡ NotServed = spent_so old new t.want m.others _ v m.looks m.stands in cc
+waiting_spent old new t back v m = let bad : NotComing ≡ NotServed = spent_so old new t.want m.others _ v m.looks (m.stands v.fresh (only_token old t.want v.stands.tokens)) in cc
 
 -- the end of a lease
 lease_row : {C : Type 0} (link : C → LinkView) (old : Lent) (l : Lease C) (v : IsLent old l.want (row_of 0 l)) → LeaseOf link old l
@@ -467,7 +482,7 @@ lease_row link old l v k =
     ap (λ (s : State). find (has_number l.no) s.conns) (sym v.stands.state) ∙ k.row ∙ ap (λ n. Some (row_of n l)) v.stands.number
 
 pub was_dropped : {C : Type 0} (link : C → LinkView) (old new : Lent) (l : Lease C) → IsLent old l.want (row_of 0 l) → LeaseOf link old l → pool.DropStep old new l.no l.want
-    → IsRested new × Grows old new (made_drop l.no) × (gone_links old.limits old.seen (made_drop l.no) ≡ l.link ∷ [])
+    → IsRested new × Grows old new (made_drop l.no) × (gone_links old.limits old.seen 0 (made_drop l.no) ≡ l.link ∷ [])
 was_dropped link old new l v k m =
     let row = row_of 0 l in
     let s = lending v.rows row v.next v.conn v.stamp in
@@ -486,7 +501,7 @@ pub record Returned {C : Type 0} (link : C → LinkView) (old new : Lent) (conn 
   pub answer : Reply
   pub grows : Grows old new (made_back conn now answer)
   pub rested : IsRested new
-  pub gone : gone_links old.limits old.seen (made_back conn now answer) ≡ number_of link put.close
+  pub gone : gone_links old.limits old.seen 0 (made_back conn now answer) ≡ number_of link put.close
 
 pub was_returned : {C : Type 0} (link : C → LinkView) (old new : Lent) (l : Lease C) (now : ℕ) (put : Put C)
     → IsLent old l.want (row_of 0 l) → LeaseOf link old l → pool.BackStep link old new l.no l.want now put → Returned link old new l.no now put
@@ -510,8 +525,8 @@ unfolding after
 opened limits = refl
 
 pub rested_opened : (lent : Lent) (limits : Limits) → lent.seen ≡ [] → lent.out ≡ [] → lent.number ≡ 0 → lent.limits ≡ limits
-    → limits.passes ≡ 1 → 0 < limits.per_pass → IsRested lent
-rested_opened lent limits seen out number same alone one = record {
+    → limits.passes ≡ 1 → 0 < limits.per_pass → lent.ended ≡ false → IsRested lent
+rested_opened lent limits seen out number same alone one running = record {
   rows = [];
   want = 0;
   conn = 0;
@@ -523,5 +538,6 @@ rested_opened lent limits seen out number same alone one = record {
     number = number;
     alone = ap (λ l. l.passes) same ∙ alone;
     one = rw same one;
+    running = running;
   };
 }

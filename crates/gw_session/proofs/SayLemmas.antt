@@ -2,17 +2,17 @@
 use Rattle.std.proofs.Common.{◌≡◌, ◌≤◌, ℕ, false, List, [], ◌∷◌, ◌++◌, Option, refl, arith}
 use Rattle.gw_wire.specs.Link.{LinkView}
 use Rattle.gw_wire.specs.Wire.{WireView, NowStep}
-use Rattle.gw_wire.proofs.StretchLemmas.{Logs-none, Told-acts, Told-after_quiet}
+use Rattle.gw_wire.proofs.Facts.{Logs-none, Told-acts, Told-after_quiet, later_same, later_then, link_same}
 use Rattle.gw_session.specs.declared.end.Ended.TheVariants as ended
 use Rattle.gw_session.specs.declared.end.Next.{Next}
 use Rattle.gw_session.specs.declared.end.Next.TheVariants.{End}
 use Rattle.gw_session.specs.declared.end.Why.{Why}
 use Rattle.gw_session.specs.declared.waits.Sent.{Sent}
 use Rattle.gw_session.specs.Ending.{said_next}
-use Rattle.gw_session.specs.Moments.{Rises}
+use Rattle.gw_wire.specs.Moments.{Rises}
 use Rattle.gw_session.specs.Replies.{Said, Unsaid, SaidAt, SaidStep, IsText}
 use Rattle.gw_session.specs.Waits.{SentStep, Says}
-use Rattle.gw_session.proofs.WaitLemmas.{later_same, later_then, link_same, sent_waited}
+use Rattle.gw_session.proofs.WaitLemmas.{sent_waited}
 
 -- nothing was said, since memory was wanting
 pub unsaid_still : (wire : WireView) (link : LinkView) (P : ℕ → List ℕ → Type 0) (reason : Option Why) → wire.aged ≡ false
@@ -69,16 +69,3 @@ said_as old new «from» to P Q reason result f s = record {
   log = s.log;
 }
 
--- ---- moments that never fall
-
-pub rises_from : (a b c : ℕ) (moments : List ℕ) → a ≤ b → Rises b moments c → Rises a moments c
-rises_from a b c [] le r = omega arith
-rises_from a b c (m ∷ moments) le r = (let f = r.0 in omega arith, r.1)
-
-pub rises_to : (a b c : ℕ) (moments : List ℕ) → Rises a moments b → b ≤ c → Rises a moments c
-rises_to a b c [] r le = omega arith
-rises_to a b c (m ∷ moments) r le = (r.0, rises_to m b c moments r.1 le)
-
-pub rises_then : (a b c : ℕ) (moments more : List ℕ) → Rises a moments b → Rises b more c → Rises a (moments ++ more) c
-rises_then a b c [] more r s = rises_from a b c more r s
-rises_then a b c (m ∷ moments) more r s = (r.0, rises_then m b c moments more r.1 s)

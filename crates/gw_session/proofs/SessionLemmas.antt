@@ -8,7 +8,7 @@ use Rattle.gw_wire.specs.declared.values.Addr.{Addr}
 use Rattle.gw_wire.specs.Link.{LinkView}
 use Rattle.gw_wire.specs.Stretch.{Told, Then, Acts}
 use Rattle.gw_wire.specs.Wire.{WireView, CloseStep}
-use Rattle.gw_wire.proofs.StretchLemmas.{Logs-none, Told-map, Told-acts, Told-then}
+use Rattle.gw_wire.proofs.Facts.{Logs-none, Told-map, Told-acts, Told-then, later_same, later_then, link_same, rises_then, rises_to}
 use Rattle.gw_head.specs.declared.request.RequestHead.{RequestHead}
 use Rattle.gw_pool.specs.declared.entry.Entry.{Entry}
 use Rattle.gw_pool.specs.declared.limits.Limits.{Limits}
@@ -35,9 +35,7 @@ use Rattle.gw_session.specs.Waits.{GoesOn}
 use Rattle.gw_session.proofs.ExchangeLemmas.{then_closed}
 use Rattle.gw_session.proofs.LeaseLemmas.{grown_none}
 use Rattle.gw_session.proofs.PoolLemmas.{grows_then}
-use Rattle.gw_session.proofs.SayLemmas.{rises_then, rises_to}
 use Rattle.gw_session.proofs.TurnLemmas.{goes_then, told_as}
-use Rattle.gw_session.proofs.WaitLemmas.{later_same, later_then, link_same}
 
 -- ---- one turn more
 

@@ -6,7 +6,7 @@ use Rattle.gw_wire.specs.Causes.{RoseBy}
 use Rattle.gw_wire.specs.Link.{LinkView}
 use Rattle.gw_wire.specs.Stretch.{Told, Then}
 use Rattle.gw_wire.specs.Wire.{WireView}
-use Rattle.gw_wire.proofs.StretchLemmas.{Logs-none, Told-map, Told-acts, Told-then}
+use Rattle.gw_wire.proofs.Facts.{Logs-none, Told-map, Told-acts, Told-then, later_same, later_then, link_same, link_then, rises_from, rises_then}
 use Rattle.gw_chunk.specs.declared.error.ChunkError.{ChunkError}
 use Rattle.gw_head.specs.declared.error.HeadError.{HeadError}
 use Rattle.gw_head.specs.declared.request.RequestHead.{RequestHead}
@@ -30,14 +30,12 @@ use Rattle.gw_session.specs.Exchange.{Exchanges, Traded, sent_text}
 use Rattle.gw_session.specs.Gathering.{HearsBody, gathered_waits}
 use Rattle.gw_session.specs.Hearing.{HearsRequest, request_waits}
 use Rattle.gw_session.specs.Resting.{IsRested}
-use Rattle.gw_session.specs.Moments.{entry_moments}
+use Rattle.gw_pool.specs.Moments.{entry_moments}
 use Rattle.gw_session.specs.Replies.{SaidActs, SaidAnswer, SaidOwn, refusal_code, said_moments}
 use Rattle.gw_session.specs.Routing.{IsOwn, IsRouted}
 use Rattle.gw_session.specs.Turn.{Undecided, Owned, Stopped, Faulty, Passed, Trip, Unheard, Refused, Heard, Deeds, DeedStep, HearsUpload, Invites, IsBody, IsStop, IsUnheard, Turned, TurnStep, continue_text, counted, request_began, stop_next, unheard_next, wants_continue}
 use Rattle.gw_session.specs.Waits.{GoesOn, SentStep, Says, Writes}
 use Rattle.gw_session.proofs.LeaseLemmas.{grown_none}
-use Rattle.gw_session.proofs.SayLemmas.{rises_from, rises_then}
-use Rattle.gw_session.proofs.WaitLemmas.{later_same, later_then, link_same, link_then}
 
 pub goes_then : (a b c : WireView) (f g h : LinkView) → GoesOn a b f g → GoesOn b c g h → GoesOn a c f h
 goes_then a b c f g h p q = record {

@@ -12,26 +12,11 @@ use Rattle.gw_wire.specs.Causes.{RoseBy}
 use Rattle.gw_wire.specs.Link.{LinkView, LinkLater}
 use Rattle.gw_wire.specs.Stretch.{Told, Then, Acts}
 use Rattle.gw_wire.specs.Wire.{WireView, Later}
-use Rattle.gw_wire.proofs.StretchLemmas.{Logs-none, Told-map, Told-then, Told-acts, Told-before_quiet}
+use Rattle.gw_wire.proofs.Facts.{Logs-none, Told-map, Told-then, Told-acts, Told-before_quiet, later_same, later_then, link_same, link_then}
 use Rattle.gw_session.specs.declared.waits.Sent.{Sent}
 use Rattle.gw_session.specs.declared.waits.Sent.TheVariants as sent
 use Rattle.gw_session.specs.declared.waits.Taken.TheVariants as taken
 use Rattle.gw_session.specs.Waits.{sent_waits, Waiting, Sending, TakenStep, SentStep, Writes, IsWriteOf, Says}
-
-pub later_same : (wire : WireView) → Later wire wire
-later_same wire = record {
-  accept_faults = omega arith;
-  dial_faults = omega arith;
-  ticks = omega arith;
-  rests = omega arith;
-  moment = omega arith;
-  first = refl;
-  ended = λ e. e;
-  groups = refl;
-}
-
-pub link_same : (link : LinkView) → LinkLater link link
-link_same link = record { number = refl; faults = omega arith; ends = omega arith }
 
 pub waiting_begins : (wire : WireView) (link : LinkView) → wire.aged ≡ false → Waiting wire wire link link 0
 waiting_begins wire link fresh = record {
@@ -41,21 +26,6 @@ waiting_begins wire link fresh = record {
   waited = omega arith;
   log = Logs-none wire.log;
 }
-
-pub later_then : (a b c : WireView) → Later a b → Later b c → Later a c
-later_then a b c p q = record {
-  accept_faults = omega arith;
-  dial_faults = omega arith;
-  ticks = omega arith;
-  rests = omega arith;
-  moment = omega arith;
-  first = q.first ∙ p.first;
-  ended = λ e. q.ended (p.ended e);
-  groups = q.groups ∙ p.groups;
-}
-
-pub link_then : (a b c : LinkView) → LinkLater a b → LinkLater b c → LinkLater a c
-link_then a b c p q = record { number = q.number ∙ p.number; faults = omega arith; ends = omega arith }
 
 pub writes_more : (k : ℕ) (front piece : List ℕ) (acts : List Act) → Writes k front acts → Writes k (front ++ piece) (acts ++ Wrote k piece ∷ [])
 writes_more k front piece acts w = record {

@@ -5,7 +5,7 @@ use Rattle.gw_wire.specs.declared.values.Addr.{Addr}
 use Rattle.gw_wire.specs.Link.{LinkView}
 use Rattle.gw_wire.specs.Stretch.{Told, Acts}
 use Rattle.gw_wire.specs.Wire.{WireView, CloseStep, NowStep, Later}
-use Rattle.gw_wire.proofs.StretchLemmas.{Told-acts, Told-then, Told-after_quiet}
+use Rattle.gw_wire.proofs.Facts.{Told-acts, Told-then, Told-after_quiet, later_then, rises_from}
 use Rattle.gw_pool.specs.declared.entry.Call.TheVariants as call
 use Rattle.gw_pool.specs.declared.entry.Entry.{Entry}
 use Rattle.gw_pool.specs.declared.entry.Reply.{Reply}
@@ -13,19 +13,17 @@ use Rattle.gw_pool.specs.declared.entry.Reply.TheVariants as reply
 use Rattle.gw_pool.specs.declared.leases.Lease.{Lease}
 use Rattle.gw_pool.specs.declared.leases.Put.{Put}
 use Rattle.gw_pool.specs.declared.leases.Ticket.{Ticket}
-use Rattle.gw_pool.specs.History.{is_full}
+use Rattle.gw_pool.specs.History.{refuses}
 use Rattle.gw_pool.specs.Lent.{Lent, DropStep, BackStep, entry_of}
 use Rattle.gw_session.specs.declared.lease.Leased.{Leased}
 use Rattle.gw_session.specs.declared.lease.Leased.TheVariants as leased
 use Rattle.gw_session.specs.declared.lease.Wanted.TheVariants as wanted
-use Rattle.gw_session.specs.Gone.{gone_links}
+use Rattle.gw_pool.specs.Gone.{gone_links}
 use Rattle.gw_session.specs.Leased.{IsClearing, LeftStep, Clears, ClearStep, WantedStep, DialedBy, GivenBy, TakenBy, TakenStep, LeasedStep, EndStep, DialsTo, DialFails, Reaches, closes}
-use Rattle.gw_session.specs.Moments.{entry_moments}
+use Rattle.gw_pool.specs.Moments.{entry_moments}
 use Rattle.gw_session.specs.Resting.{IsLeased, Grows, made_dialed, made_failed}
 use Rattle.gw_session.proofs.LeaseLemmas.{Made, MayDial, HasOne, made_of, clears_then, full_behind, timed_then}
 use Rattle.gw_session.proofs.PoolLemmas.{was_dropped, was_returned, grows_then, grows_quiet}
-use Rattle.gw_session.proofs.SayLemmas.{rises_from}
-use Rattle.gw_session.proofs.WaitLemmas.{later_then}
 
 -- the clock was read, an idle connection that was due was closed, and those that wants found
 all_cleared : (old mid met new : WireView) (a b c : Lent) (host now : ℕ) → NowStep old mid now → (e : ClearStep mid met a b) → (expired : List Entry)
@@ -38,13 +36,13 @@ all_cleared old mid met new a b c host now n e expired w =
       rested = both.rested;
       grows = both.grows;
       timed = rises_from old.moment mid.moment new.moment (entry_moments (e.made ++ expired)) n.later.moment both.timed;
-      log = Told-after_quiet old.log mid.log new.log (Acts (closes (gone_links a.limits a.seen (e.made ++ expired)))) n.log both.log;
+      log = Told-after_quiet old.log mid.log new.log (Acts (closes (gone_links a.limits a.seen 0 (e.made ++ expired)))) n.log both.log;
     }
 
 -- ---- by what came of the want
 
 granted_way : {C : Type 0} (link : C → LinkView) (old mid new : WireView) (a b c d : Lent) (host : ℕ) (backend : Addr) (want asked count w : ℕ) (clearing : List Entry) (result : Leased C)
-    → w ≡ want → mid.moment ≡ asked → Clears old mid a b clearing → IsClearing host count clearing → count < 1000000 → is_full b.limits b.seen ≡ false
+    → w ≡ want → mid.moment ≡ asked → Clears old mid a b clearing → IsClearing host count clearing → count < 1000000 → refuses b.limits b.seen ≡ false
     → Grows b c (entry_of 0 (call.Want host asked) (reply.Granted w) ∷ []) → Later mid new → new.aged ≡ false
     → DialedBy link mid new c d host backend want result → LeasedStep link old new a d host backend result
 granted_way link old mid new a b c d host backend want asked count w clearing (leased.Lease l) same at clears parts few room grows later fresh x =
@@ -68,7 +66,7 @@ granted_way link old mid new a b c d host backend want asked count w clearing (l
         (
           true,
           (want, asked, x.1.0, refl),
-          Told-then old.log mid.log new.log (Acts (closes (gone_links a.limits a.seen clearing))) (Reaches (old.groups backend) host backend l.link true) clears.log (subst P clears.later.groups x.2),
+          Told-then old.log mid.log new.log (Acts (closes (gone_links a.limits a.seen 0 clearing))) (Reaches (old.groups backend) host backend l.link true) clears.log (subst P clears.later.groups x.2),
         ),
       );
     }
@@ -92,14 +90,14 @@ granted_way link old mid new a b c d host backend want asked count w clearing le
         x.0,
         (want, asked, refl),
         (let f = clears.later.dial_faults in let g = x.2 in omega arith),
-        Told-then old.log mid.log new.log (Acts (closes (gone_links a.limits a.seen clearing))) (DialFails (old.groups backend) host backend) clears.log (subst P clears.later.groups x.3),
+        Told-then old.log mid.log new.log (Acts (closes (gone_links a.limits a.seen 0 clearing))) (DialFails (old.groups backend) host backend) clears.log (subst P clears.later.groups x.3),
       );
     }
 granted_way link old mid new a b c d host backend want asked count w clearing leased.Full same at clears parts few room grows later fresh x = absurd x
 granted_way link old mid new a b c d host backend want asked count w clearing leased.Late same at clears parts few room grows later fresh x = absurd x
 
 given_way : {C : Type 0} (link : C → LinkView) (old mid new : WireView) (a b c d : Lent) (host : ℕ) (backend : Addr) (asked count w conn : ℕ) (clearing : List Entry) (result : Leased C)
-    → mid.moment ≡ asked → Clears old mid a b clearing → IsClearing host count clearing → count < 1000000 → is_full b.limits b.seen ≡ false
+    → mid.moment ≡ asked → Clears old mid a b clearing → IsClearing host count clearing → count < 1000000 → refuses b.limits b.seen ≡ false
     → Grows b c (entry_of 0 (call.Want host asked) (reply.Given w conn) ∷ []) → Later mid new → new.aged ≡ false
     → GivenBy link mid new c d conn result → LeasedStep link old new a d host backend result
 given_way link old mid new a b c d host backend asked count w conn clearing (leased.Lease l) at clears parts few room grows later fresh x =
@@ -121,7 +119,7 @@ given_way link old mid new a b c d host backend asked count w conn clearing (lea
         (
           false,
           (w, asked, refl),
-          Told-then old.log mid.log new.log (Acts (closes (gone_links a.limits a.seen clearing))) (Reaches (old.groups backend) host backend l.link false) clears.log x.3,
+          Told-then old.log mid.log new.log (Acts (closes (gone_links a.limits a.seen 0 clearing))) (Reaches (old.groups backend) host backend l.link false) clears.log x.3,
         ),
       );
     }
@@ -130,7 +128,7 @@ given_way link old mid new a b c d host backend asked count w conn clearing leas
 given_way link old mid new a b c d host backend asked count w conn clearing leased.Late at clears parts few room grows later fresh x = absurd x
 
 way_case : {C : Type 0} (link : C → LinkView) (old mid new : WireView) (a b c d : Lent) (host : ℕ) (backend : Addr) (want asked count : ℕ) (clearing : List Entry) (result : Leased C) (answer : Reply)
-    → mid.moment ≡ asked → Clears old mid a b clearing → IsClearing host count clearing → count < 1000000 → is_full b.limits b.seen ≡ false
+    → mid.moment ≡ asked → Clears old mid a b clearing → IsClearing host count clearing → count < 1000000 → refuses b.limits b.seen ≡ false
     → Grows b c (entry_of 0 (call.Want host asked) answer ∷ []) → Later mid new → new.aged ≡ false
     → TakenBy link mid new c d host backend want result answer → Made c want answer → LeasedStep link old new a d host backend result
 way_case link old mid new a b c d host backend want asked count clearing result answer at clears parts few room grows later fresh x (MayDial w e same granted) =

@@ -8,16 +8,17 @@ use Rattle.gw_wire.specs.Wire.{WireView, Later}
 use Rattle.gw_head.specs.declared.request.RequestHead.{RequestHead}
 use Rattle.gw_pool.specs.declared.entry.Entry.{Entry}
 use Rattle.gw_pool.specs.declared.limits.Limits.{Limits}
-use Rattle.gw_pool.specs.History.{is_full}
+use Rattle.gw_pool.specs.History.{refuses}
 use Rattle.gw_pool.specs.Lent.{Lent}
 use Rattle.gw_proxy.specs.OutRequest.{out_head_of, request_text_of}
 use Rattle.gw_routes.specs.declared.table.Table.{Table}
 use Rattle.gw_session.specs.declared.exchange.Answer.{Answer}
 use Rattle.gw_session.specs.declared.exchange.Answer.TheVariants as answer
 use Rattle.gw_session.specs.Attempt.{Attempts, attempt_waits, is_reusable}
-use Rattle.gw_session.specs.Gone.{gone_links}
+use Rattle.gw_pool.specs.Gone.{gone_links}
 use Rattle.gw_session.specs.Leased.{DialFails, HasLink, IsClearing, IsEnding, IsFailing, IsLeasing, Reaches, closes}
-use Rattle.gw_session.specs.Moments.{Rises, entry_moments}
+use Rattle.gw_wire.specs.Moments.{Rises}
+use Rattle.gw_pool.specs.Moments.{entry_moments}
 use Rattle.gw_session.specs.Resting.{IsRested, Grows}
 use Rattle.gw_session.specs.Routing.{Target, LeadsTo}
 
@@ -57,12 +58,12 @@ pub record MakesTry (limits : Limits) (history : List Entry) (host : ℕ) (reusa
   pub parts : c.made ≡ (clearing ++ leasing) ++ ending
   pub clears : IsClearing host count clearing
   pub few : count < 1000000
-  pub room : is_full limits (history ++ clearing) ≡ false
+  pub room : refuses limits (history ++ clearing) ≡ false
   pub leases : IsLeasing host conn c.link c.dialed leasing
   pub linked : HasLink limits (history ++ (clearing ++ leasing)) conn c.link
   pub ends : IsEnding reusable conn ending
-  pub cleared_are : c.cleared ≡ gone_links limits history clearing
-  pub left_are : c.left ≡ gone_links limits (history ++ (clearing ++ leasing)) ending
+  pub cleared_are : c.cleared ≡ gone_links limits history 0 clearing
+  pub left_are : c.left ≡ gone_links limits (history ++ (clearing ++ leasing)) 0 ending
 
 -- the backend could not be dialed
 pub record MakesFailure (limits : Limits) (history : List Entry) (host : ℕ) (c : Course) : Type 0 where
@@ -72,22 +73,22 @@ pub record MakesFailure (limits : Limits) (history : List Entry) (host : ℕ) (c
   pub parts : c.made ≡ clearing ++ leasing
   pub clears : IsClearing host count clearing
   pub few : count < 1000000
-  pub room : is_full limits (history ++ clearing) ≡ false
+  pub room : refuses limits (history ++ clearing) ≡ false
   pub fails : IsFailing host leasing
-  pub cleared_are : c.cleared ≡ gone_links limits history clearing
+  pub cleared_are : c.cleared ≡ gone_links limits history 0 clearing
 
 -- the last want found no room in the journal
 pub record MakesRefusal (limits : Limits) (history : List Entry) (host : ℕ) (c : Course) : Type 0 where
   pub count : ℕ
   pub clears : IsClearing host count c.made
   pub few : count < 1000000
-  pub full : is_full limits (history ++ c.made) ≡ true
-  pub cleared_are : c.cleared ≡ gone_links limits history c.made
+  pub full : refuses limits (history ++ c.made) ≡ true
+  pub cleared_are : c.cleared ≡ gone_links limits history 0 c.made
 
 -- a million wants found an expired connection
 pub record MakesLate (limits : Limits) (history : List Entry) (host : ℕ) (c : Course) : Type 0 where
   pub clears : IsClearing host 1000000 c.made
-  pub cleared_are : c.cleared ≡ gone_links limits history c.made
+  pub cleared_are : c.cleared ≡ gone_links limits history 0 c.made
 
 -- the caller's entries behind a history, by what came of the exchange
 abbrev pub Makes : Limits → List Entry → ℕ → Answer → Course → Type 0

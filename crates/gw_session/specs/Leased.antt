@@ -15,15 +15,16 @@ use Rattle.gw_pool.specs.declared.entry.Reply.{Reply}
 use Rattle.gw_pool.specs.declared.entry.Reply.TheVariants as reply
 use Rattle.gw_pool.specs.declared.limits.Limits.{Limits}
 use Rattle.gw_pool.specs.declared.rows.ConnRow.{ConnRow}
-use Rattle.gw_pool.specs.History.{after, is_full}
+use Rattle.gw_pool.specs.History.{after, refuses}
 use Rattle.gw_pool.specs.Lent.{Lent, entry_of}
 use Rattle.gw_pool.specs.State.{has_number}
 use Rattle.gw_session.specs.declared.lease.Leased.{Leased}
 use Rattle.gw_session.specs.declared.lease.Leased.TheVariants as leased
 use Rattle.gw_session.specs.declared.lease.Wanted.{Wanted}
 use Rattle.gw_session.specs.declared.lease.Wanted.TheVariants as wanted
-use Rattle.gw_session.specs.Gone.{gone_links, number_of}
-use Rattle.gw_session.specs.Moments.{Rises, entry_moments}
+use Rattle.gw_pool.specs.Gone.{gone_links, number_of}
+use Rattle.gw_wire.specs.Moments.{Rises}
+use Rattle.gw_pool.specs.Moments.{entry_moments}
 use Rattle.gw_session.specs.Resting.{IsRested, IsLeased, IsExpiring, Grows, WantsBy, expired_entry, made_back, made_dialed, made_drop, made_failed}
 
 -- these links are closed
@@ -95,7 +96,7 @@ pub record Clears (old new : WireView) (before after : Lent) (made : List Entry)
   pub rested : IsRested after
   pub grows : Grows before after made
   pub timed : Rises old.moment (entry_moments made) new.moment
-  pub log : Told old.log new.log (Acts (closes (gone_links before.limits before.seen made)))
+  pub log : Told old.log new.log (Acts (closes (gone_links before.limits before.seen 0 made)))
 
 pub record ClearStep (old new : WireView) (before after : Lent) : Type 0 where
   pub made : List Entry
@@ -108,13 +109,13 @@ pub record Asks (before after : Lent) (host asked want : ℕ) : Type 0 where
   pub answer : Reply
   pub grows : Grows before after (entry_of 0 (call.Want host asked) answer ∷ [])
   pub by : WantsBy after want answer
-  pub room : is_full before.limits before.seen ≡ false
+  pub room : refuses before.limits before.seen ≡ false
 
 -- wants until one was made
 abbrev pub WantedBy : Lent → Lent → ℕ → ℕ → ℕ → Wanted → Type 0
 WantedBy mid after host asked count (wanted.Ticket t) = (count < 1000000) × Asks mid after host asked t.want
 WantedBy mid after host asked count wanted.Full =
-    (count < 1000000) × (is_full mid.limits mid.seen ≡ true) × IsRested after × Grows mid after []
+    (count < 1000000) × (refuses mid.limits mid.seen ≡ true) × IsRested after × Grows mid after []
 WantedBy mid after host asked count wanted.Late = (count ≡ 1000000) × IsRested after × Grows mid after []
 
 pub record WantedStep (old new : WireView) (before after : Lent) (host : ℕ) (result : Wanted) : Type 0 where
@@ -162,19 +163,19 @@ pub record TakenStep {C : Type 0} (link : C → LinkView) (old new : WireView) (
 
 abbrev pub LeasedBy : {C : Type 0} → (C → LinkView) → WireView → WireView → Lent → Lent → ℕ → Addr → List Entry → List Entry → ℕ → Leased C → Type 0
 LeasedBy link old new before after host backend clearing leasing count (leased.Lease l) =
-    (count < 1000000) × (is_full before.limits (before.seen ++ clearing) ≡ false) × IsLeased link after l
+    (count < 1000000) × (refuses before.limits (before.seen ++ clearing) ≡ false) × IsLeased link after l
     × ((dialed : Bool) × IsLeasing host l.no l.link dialed leasing
-    × Told old.log new.log (Then (Acts (closes (gone_links before.limits before.seen clearing))) (Reaches (old.groups backend) host backend l.link dialed)))
+    × Told old.log new.log (Then (Acts (closes (gone_links before.limits before.seen 0 clearing))) (Reaches (old.groups backend) host backend l.link dialed)))
 LeasedBy link old new before after host backend clearing leasing count leased.Unreachable =
-    (count < 1000000) × (is_full before.limits (before.seen ++ clearing) ≡ false) × IsRested after × IsFailing host leasing
+    (count < 1000000) × (refuses before.limits (before.seen ++ clearing) ≡ false) × IsRested after × IsFailing host leasing
     × Rose old.dial_faults new.dial_faults
-    × Told old.log new.log (Then (Acts (closes (gone_links before.limits before.seen clearing))) (DialFails (old.groups backend) host backend))
+    × Told old.log new.log (Then (Acts (closes (gone_links before.limits before.seen 0 clearing))) (DialFails (old.groups backend) host backend))
 LeasedBy link old new before after host backend clearing leasing count leased.Full =
-    (count < 1000000) × (is_full before.limits (before.seen ++ clearing) ≡ true) × IsRested after × (leasing ≡ [])
-    × Told old.log new.log (Acts (closes (gone_links before.limits before.seen clearing)))
+    (count < 1000000) × (refuses before.limits (before.seen ++ clearing) ≡ true) × IsRested after × (leasing ≡ [])
+    × Told old.log new.log (Acts (closes (gone_links before.limits before.seen 0 clearing)))
 LeasedBy link old new before after host backend clearing leasing count leased.Late =
     (count ≡ 1000000) × IsRested after × (leasing ≡ [])
-    × Told old.log new.log (Acts (closes (gone_links before.limits before.seen clearing)))
+    × Told old.log new.log (Acts (closes (gone_links before.limits before.seen 0 clearing)))
 
 pub record LeasedStep {C : Type 0} (link : C → LinkView) (old new : WireView) (before after : Lent) (host : ℕ) (backend : Addr) (result : Leased C) : Type 0 where
   pub later : Later old new
@@ -196,4 +197,4 @@ pub record EndStep (old new : WireView) (before after : Lent) (conn : ℕ) (reus
   pub ends : IsEnding reusable conn ending
   pub grows : Grows before after ending
   pub timed : Rises old.moment (entry_moments ending) new.moment
-  pub log : Told old.log new.log (Acts (closes (gone_links before.limits before.seen ending)))
+  pub log : Told old.log new.log (Acts (closes (gone_links before.limits before.seen 0 ending)))

@@ -2,11 +2,9 @@ pub mod Attempt
 pub mod Ending
 pub mod Exchange
 pub mod Gathering
-pub mod Gone
 pub mod Hearing
 pub mod Inbox
 pub mod Leased
-pub mod Moments
 pub mod Replies
 pub mod Resting
 pub mod Routing

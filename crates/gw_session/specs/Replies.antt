@@ -22,7 +22,7 @@ use Rattle.gw_session.specs.declared.exchange.Answer.{Answer}
 use Rattle.gw_session.specs.declared.exchange.Answer.TheVariants as answer
 use Rattle.gw_session.specs.declared.waits.Sent.{Sent}
 use Rattle.gw_session.specs.Ending.{said_next}
-use Rattle.gw_session.specs.Moments.{Rises}
+use Rattle.gw_wire.specs.Moments.{Rises}
 use Rattle.gw_session.specs.Waits.{GoesOn, Says, sent_waits}
 
 -- the code that answers a head which fails this check (RFC 9110, section 15; RFC 6585, section 5)

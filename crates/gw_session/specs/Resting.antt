@@ -13,6 +13,7 @@ use Rattle.gw_pool.specs.declared.rows.Place.TheVariants.{Out}
 use Rattle.gw_pool.specs.declared.rows.Stage.TheVariants.{Granted, Dialing}
 use Rattle.gw_pool.specs.History.{after}
 use Rattle.gw_pool.specs.Lent.{Lent, LeaseOf, entry_of, row_of}
+use Rattle.gw_pool.specs.Shelf.{is_among}
 use Rattle.gw_pool.specs.State.{State, rests}
 use Rattle.gw_pool.specs.Tokens.{ticket_of, with_dial}
 
@@ -38,13 +39,14 @@ dialing rows host want conn stamp = record (resting rows (want + 1) conn stamp) 
 abbrev pub lending : List ConnRow → ConnRow → ℕ → ℕ → ℕ → State
 lending rows row want conn stamp = resting (rows ++ row ∷ []) want conn stamp
 
--- the pool's only caller finds it in this state, with these tokens out
+-- the pool's only caller finds it in this state, with these tokens out; its calls go on
 pub record Stands (lent : Lent) (s : State) (out : List Holding) : Type 0 where
   pub state : after lent.limits lent.seen ≡ s
   pub tokens : lent.out ≡ out
   pub number : lent.number ≡ 0
   pub alone : lent.limits.passes ≡ 1
   pub one : 0 < lent.limits.per_pass
+  pub running : lent.ended ≡ false
 
 -- there is no want and no dial, and each connection is idle
 pub record IsRested (lent : Lent) : Type 0 where
@@ -62,6 +64,7 @@ pub record IsGranted (lent : Lent) (want : ℕ) : Type 0 where
   pub conn : ℕ
   pub stamp : ℕ
   pub idle : AreIdle rows
+  pub fresh : is_among want lent.fresh ≡ true
   pub stands : Stands lent (granted rows host want conn stamp) (ticket_of want ∷ [])
 
 -- there is one dial
@@ -71,6 +74,7 @@ pub record IsDialing (lent : Lent) (want : ℕ) : Type 0 where
   pub conn : ℕ
   pub stamp : ℕ
   pub idle : AreIdle rows
+  pub fresh : is_among want lent.fresh ≡ true
   pub stands : Stands lent (dialing rows host want conn stamp) (with_dial (ticket_of want) ∷ [])
 
 -- a want's dial failed, and it was not asked for since
@@ -80,6 +84,7 @@ pub record IsSpent (lent : Lent) (want : ℕ) : Type 0 where
   pub conn : ℕ
   pub stamp : ℕ
   pub idle : AreIdle rows
+  pub fresh : is_among want lent.fresh ≡ true
   pub stands : Stands lent (resting rows next conn stamp) (ticket_of want ∷ [])
 
 -- one connection is out to a want, which was not asked for since
@@ -90,6 +95,7 @@ pub record IsServed (lent : Lent) (want : ℕ) (row : ConnRow) : Type 0 where
   pub stamp : ℕ
   pub place : row.place ≡ Out want 0
   pub idle : AreIdle rows
+  pub fresh : is_among want lent.fresh ≡ true
   pub stands : Stands lent (lending rows row next conn stamp) (ticket_of want ∷ [])
 
 -- one connection is lent to a want

@@ -17,7 +17,7 @@ use Rattle.gw_session.specs.declared.end.Served.{Served}
 use Rattle.gw_session.specs.declared.end.Next.{Next}
 use Rattle.gw_session.specs.declared.end.Next.TheVariants.{Again, End}
 use Rattle.gw_session.specs.Resting.{IsRested, Grows}
-use Rattle.gw_session.specs.Moments.{Rises}
+use Rattle.gw_wire.specs.Moments.{Rises}
 use Rattle.gw_session.specs.Turn.{Turn, Turned, FitsAt, began_in, counted, failed_in, made_in, moments_in, turn_next, waits_in}
 use Rattle.gw_session.specs.Waits.{GoesOn}
 

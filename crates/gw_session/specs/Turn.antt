@@ -32,7 +32,8 @@ use Rattle.gw_session.specs.Exchange.{Course, Exchanges, Makes, failed_dials, an
 use Rattle.gw_session.specs.Gathering.{HearsBody, gathered_waits}
 use Rattle.gw_session.specs.Hearing.{HearsRequest, request_waits}
 use Rattle.gw_session.specs.Resting.{IsRested, Grows}
-use Rattle.gw_session.specs.Moments.{Rises, entry_moments}
+use Rattle.gw_wire.specs.Moments.{Rises}
+use Rattle.gw_pool.specs.Moments.{entry_moments}
 use Rattle.gw_session.specs.Replies.{AnswerText, IsText, Said, SaidActs, next_behind, refusal_code, said_moments, said_waits}
 use Rattle.gw_session.specs.Routing.{IsOwn, IsRouted, LeadsTo, Target}
 use Rattle.gw_session.specs.Waits.{GoesOn, Says, Writes}

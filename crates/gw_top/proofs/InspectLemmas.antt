@@ -5,7 +5,7 @@ use Rattle.std.specs.Prelude.{IfOk, String}
 use Rattle.std.specs.declared.alloc.Global.{Global}
 use Rattle.gw_wire.specs.Acts.{Logs}
 use Rattle.gw_wire.specs.World.{WorldView, WorldLater}
-use Rattle.gw_wire.proofs.StretchLemmas.{Logs-then}
+use Rattle.gw_wire.proofs.Facts.{Logs-then}
 use Rattle.gw_head.specs.Host.{host_without_port}
 use Rattle.gw_head.specs.Pieces.{before}
 use Rattle.gw_head.specs.Target.{IsQuery, query_of}

@@ -13,7 +13,7 @@ use Rattle.gw_wire.specs.Link.{LinkView}
 use Rattle.gw_wire.specs.Stretch.{Told, Then, Acts}
 use Rattle.gw_wire.specs.Wire.{WireView}
 use Rattle.gw_wire.specs.World.{WorldView, IsGiven}
-use Rattle.gw_wire.proofs.StretchLemmas.{Logs-none, Told-map, Told-acts, Told-then, Told-before_quiet}
+use Rattle.gw_wire.proofs.Facts.{Logs-none, Told-map, Told-acts, Told-then, Told-before_quiet, later_same, later_then, rises_then, rises_to}
 use Rattle.gw_pool.specs.declared.entry.Entry.{Entry}
 use Rattle.gw_pool.specs.declared.limits.Limits.{Limits}
 use Rattle.gw_pool.specs.Lent.{Lent}
@@ -25,8 +25,6 @@ use Rattle.gw_session.specs.Session as Turns
 use Rattle.gw_session.specs.Session.{Session, SessionStep}
 use Rattle.gw_session.specs.Turn.{Turn}
 use Rattle.gw_session.proofs.PoolLemmas.{grows_then}
-use Rattle.gw_session.proofs.SayLemmas.{rises_then, rises_to}
-use Rattle.gw_session.proofs.WaitLemmas.{later_same, later_then}
 use Rattle.gw_top.specs.Run.{Visit, Visited, Visits, Follow, Serving, Worked, made_by, moments_by}
 
 pub given_first : {W : Type 0} (world : WorldView) (wire : W → WireView) (wires : List W) (first : W) → wires ≡ first ∷ []

@@ -12,7 +12,7 @@ use Rattle.gw_wire.specs.Causes.{Rose}
 use Rattle.gw_wire.specs.Stretch.{Told, Then, Acts}
 use Rattle.gw_wire.specs.Wire.{WireView, Later, HasNoActs}
 use Rattle.gw_wire.specs.World.{WorldView, WorldLater, PrintStep, IsGiven, ListensNow, ListensAt}
-use Rattle.gw_wire.proofs.StretchLemmas.{Logs-none, Logs-then, Told-map, Told-then}
+use Rattle.gw_wire.proofs.Facts.{Logs-none, Logs-then, Told-map, Told-then, rises_from, rises_to}
 use Rattle.gw_head.specs.declared.request.RequestHead.{RequestHead}
 use Rattle.gw_pool.specs.declared.entry.Entry.{Entry}
 use Rattle.gw_pool.specs.declared.limits.Limits.{Limits}
@@ -28,7 +28,6 @@ use Rattle.gw_session.specs.Replies.{SaidActs}
 use Rattle.gw_session.specs.Session.{Behind, is_last}
 use Rattle.gw_session.specs.Session.{Serves as ServesTurns}
 use Rattle.gw_session.specs.Turn.{Deed, Undecided, Owned, Stopped, Faulty, Passed, Deeds, HearsUpload, Turn, Unheard, Refused, Heard, Turned, turn_next}
-use Rattle.gw_session.proofs.SayLemmas.{rises_from, rises_to}
 use Rattle.gw_top.specs.declared.run.Report.{Report}
 use Rattle.gw_top.specs.declared.worker.Worker.{Worker}
 use Rattle.gw_top.specs.Command.{IsServe, name_of}

@@ -14,7 +14,7 @@ use Rattle.gw_pool.specs.Lent.{Lent}
 use Rattle.gw_routes.specs.declared.table.Table.{Table}
 use Rattle.gw_session.specs.declared.end.Ended.{Ended as SessionEnded}
 use Rattle.gw_session.specs.Resting.{IsRested, Grows}
-use Rattle.gw_session.specs.Moments.{Rises}
+use Rattle.gw_wire.specs.Moments.{Rises}
 use Rattle.gw_session.specs.Session as Turns
 use Rattle.gw_session.specs.Session.{Session}
 use Rattle.gw_session.specs.Turn.{Turn, counted}

@@ -3,7 +3,7 @@ use Rattle.gw_session.proofs.lease.end_lease.Goals as goal
 
 pub returns-then-reusable : goal.returns-then-reusable
 returns-then-reusable g c =
-    rw (c.if-reusable.true) (returned_done g.W.Conn.Link.link _ _ _ _ _ c.args.lease c.now-now.result c.give_back-close.result c.requires.leased c.now-now.ensures c.give_back-close.ensures c.close_left.ensures)
+    rw (c.if-reusable.true) (returned_done g.W.Conn.Link.link _ _ _ _ _ c.args.lease c.now-now.result c.give_back-close.result c.requires.leased c.now-now.ensures c.give_back-close.ensures.step c.close_left.ensures)
 
 pub returns-else-reusable : goal.returns-else-reusable
 returns-else-reusable g c =

@@ -9,7 +9,7 @@ returns-clause-ready g c =
     record {
       numbered = c.requires;
       limits = made.limits;
-      rested = rested_opened c.in_ok-pool.pool c.args.table.limits made.seen made.out made.number made.limits alone (let o = c.requires.one in omega arith);
+      rested = rested_opened c.in_ok-pool.pool c.args.table.limits made.seen made.out made.number made.limits alone (let o = c.requires.one in omega arith) made.running;
       seen = made.seen;
       mine = made.mine;
       nobody = c.in_ok-with_capacity.ensures.items;
