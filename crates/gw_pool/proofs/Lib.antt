@@ -35,4 +35,6 @@ pub mod Staying
 pub mod Comings
 pub mod GoingOn
 pub mod OwnEntries
+pub mod Left
+pub mod Judged
 mod WorkedRows
