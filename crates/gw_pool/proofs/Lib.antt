@@ -37,4 +37,5 @@ pub mod GoingOn
 pub mod OwnEntries
 pub mod Left
 pub mod Judged
+pub mod Facts
 mod WorkedRows
