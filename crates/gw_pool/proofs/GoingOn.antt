@@ -59,7 +59,7 @@ others e more caller m =
 longer : (limits : Limits) (seen : List Entry) (e : Entry) (more : List Entry) → IsLegal limits (seen ++ e ∷ more) → IsLegal limits ((seen ++ e ∷ []) ++ more)
 longer limits seen e more l = subst (λ h. IsLegal limits h) (sym (append_assoc seen (e ∷ []) more)) l
 
-served_stays : (limits : Limits) (seen more : List Entry) (want host caller : ℕ) → IsLegal limits (seen ++ more) → mine more caller ≡ [] → IsServed want host caller (after limits seen) → IsServed want host caller (after limits (seen ++ more))
+pub served_stays : (limits : Limits) (seen more : List Entry) (want host caller : ℕ) → IsLegal limits (seen ++ more) → mine more caller ≡ [] → IsServed want host caller (after limits seen) → IsServed want host caller (after limits (seen ++ more))
 served_stays limits seen more want host caller l m k = record { row = k.row; is_host = k.is_host; out = out_stays limits seen more want caller k.row l m k.out }
 
 pub wants_go_on : (test : Stage → Bool) (limits : Limits) (seen more : List Entry) (want host caller : ℕ) → IsKeptByGrant test → IsLegal limits (seen ++ more) → mine more caller ≡ [] → Comes test want host caller (after limits seen) → Comes test want host caller (after limits (seen ++ more))

@@ -35,4 +35,7 @@ pub mod Staying
 pub mod Comings
 pub mod GoingOn
 pub mod OwnEntries
+pub mod Left
+pub mod Judged
+pub mod Facts
 mod WorkedRows

@@ -68,7 +68,7 @@ dial_row s w host caller dial n m f =
     (eqb-true dial.want w (found_passes (dials_for w) s.dials dial f)) refl
 
 -- a connection that is out to a want passes the test
-out_passes : (w c : ℕ) (row : ConnRow) → row.place ≡ Out w c → is_with w row ≡ true
+pub out_passes : (w c : ℕ) (row : ConnRow) → row.place ≡ Out w c → is_with w row ≡ true
 out_passes w c row p = rw p (eq-eqb w w refl)
 
 -- a served want has no row

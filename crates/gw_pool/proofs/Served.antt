@@ -284,7 +284,7 @@ new_number w s n l = elim (below w s.next_want) [ inl b ↦ b | inr a ↦ absurd
 pub row_here : (w : ℕ) (s : State) (row : WantRow) → find (wants_it w) s.wants ≡ Some row → want_weight (row_of w) row ≡ 1
 row_here w s row f = stage_is w row.stage row.want ∙ ap (λ n. one w n) (eqb-true row.want w (found_passes (wants_it w) s.wants row f)) ∙ one_same w
 
-has_row : (w : ℕ) (s : State) (row : WantRow) → find (wants_it w) s.wants ≡ Some row → 1 ≤ rows w s
+pub has_row : (w : ℕ) (s : State) (row : WantRow) → find (wants_it w) s.wants ≡ Some row → 1 ≤ rows w s
 has_row w s row f = omega (arith, without_want (row_of w) s row (wants_it w) f, row_here w s row f)
 
 no_row_by : (w : ℕ) (s : State) (o : Option WantRow) → find (wants_it w) s.wants ≡ o → rows w s ≡ 0 → o ≡ None

@@ -235,7 +235,7 @@ place_by w (Idle a b) e = absurd (cc)
 pub stage_at : (w : ℕ) (row : WantRow) → (row.want == w) ≡ true → 1 ≤ want_weight (occ_of w) row
 stage_at w row e = stage_by w row.stage row.want e
 
-place_at : (w : ℕ) (row : ConnRow) → is_with w row ≡ true → 1 ≤ conn_weight (occ_of w) row
+pub place_at : (w : ℕ) (row : ConnRow) → is_with w row ≡ true → 1 ≤ conn_weight (occ_of w) row
 place_at w row e = omega (arith, place_by w row.place e)
 
 pub unit_weight : (s : State) (caller w : ℕ) → In w (map (λ (row : WantRow). row.want) (filter (λ (row : WantRow). row.caller == caller) s.wants) ++ map (λ (row : DialRow). row.want) (filter (λ (row : DialRow). row.caller == caller) s.dials) ++ filter_map (λ (row : ConnRow). out_want caller row.place) s.conns) → 1 ≤ weight (occ_of w) s + dials_of w s.dials

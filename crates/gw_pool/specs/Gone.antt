@@ -1,7 +1,9 @@
 -- The links of the connections that leave the pool by a caller's entries: the caller closes each of them.
-use Rattle.std.specs.Prelude.{ℕ, List, [], ◌∷◌, ◌++◌, ◌==◌, Option, Some, None, if◌then◌else◌}
+use Rattle.std.specs.Prelude.{◌≡◌, ℕ, List, [], ◌∷◌, ◌++◌, ◌==◌, Option, Some, None, if◌then◌else◌}
 use Rattle.gw_wire.specs.Link.{LinkView}
 use Rattle.gw_pool.specs.declared.entry.Entry.{Entry}
+use Rattle.gw_pool.specs.declared.entry.Reply.{Reply}
+use Rattle.gw_pool.specs.declared.entry.Reply.TheVariants as reply
 use Rattle.gw_pool.specs.declared.limits.Limits.{Limits}
 use Rattle.gw_pool.specs.declared.rows.ConnRow.{ConnRow}
 use Rattle.gw_pool.specs.History.{after}
@@ -26,3 +28,8 @@ gone_links limits history caller (entry ∷ later) =
 abbrev pub number_of : {C : Type 0} → (C → LinkView) → Option C → List ℕ
 number_of link None = []
 number_of link (Some conn) = (link conn).number ∷ []
+
+-- a want leaves the pool a connection only where it met an expired one
+abbrev pub WantLeaves : Reply → Option ConnRow → Type 0
+WantLeaves (reply.Expired conn) gone = (row : ConnRow) × (gone ≡ Some row) × (row.conn ≡ conn)
+WantLeaves _ gone = gone ≡ None

@@ -6,7 +6,7 @@ use Rattle.gw_pool.specs.Core.{CoreView, state_at}
 use Rattle.gw_pool.specs.Machine.{units}
 use Rattle.gw_pool.specs.Tokens.{TokensView}
 use Rattle.gw_turn.specs.declared.view.PassView.{PassView}
-use Rattle.gw_turn.specs.Owner.{owner}
+use Rattle.gw_pool.specs.Owner.{owner}
 use Rattle.gw_turn.specs.Meeting.{Meeting, Entering, Leaving, known}
 use Rattle.gw_turn.specs.Pass.{PassState, state_of, IsPass}
 use Rattle.gw_turn.specs.Steps.{PassMe, lent_of, core_of, took, released}

@@ -18,9 +18,9 @@ use Rattle.gw_pool.proofs.Shelves.{out_at}
 use Rattle.gw_pool.proofs.Weights.{weight}
 use Rattle.gw_pool.proofs.Numbers.{Numbers}
 use Rattle.gw_pool.proofs.TieCalls.{has}
-use Rattle.gw_pool.proofs.TieWant.{In, in_append, or_cases, unit_weight, pigeon, by_number}
+use Rattle.gw_pool.proofs.TieWant.{In, in_append, or_cases, in_distinct, unit_weight, pigeon}
 use Rattle.gw_pool.proofs.SoloCalls.{some_dial, served_row}
-use Rattle.gw_turn.specs.Owner.{PlaceIs, Owned, IsOwned}
+use Rattle.gw_pool.specs.Owner.{PlaceIs, Owned, IsOwned}
 use Rattle.gw_turn.specs.Tie.{Ties}
 use Rattle.gw_turn.proofs.Moving.{is_own}
 
@@ -80,19 +80,6 @@ few_units by c s out taken o k = pigeon _ out (λ w m. none_named by c w s out t
 -- each unit of a caller is a want that its tokens name
 pub unit_named : (by : ℕ → ℕ) (c : ℕ) (s : State) (out : List Holding) (taken : List ℕ) (w : ℕ) → IsOwned by s → Ties by c s out taken → list_any (λ y. y == w) (map (λ (row : WantRow). row.want) (filter (λ (row : WantRow). row.caller == c) s.wants) ++ map (λ (row : DialRow). row.want) (filter (λ (row : DialRow). row.caller == c) s.dials) ++ filter_map (λ (row : ConnRow). out_want c row.place) s.conns) ≡ true → find (names w) out ≡ None → ⊥
 unit_named by c s out taken w o k m = none_named by c w s out taken k (unit_own by c s w o m) (unit_weight s c w m)
-
--- the distinct numbers of a list are in it
-or_true : (a b : Bool) → b ≡ true → (a || b) ≡ true
-or_true true b h = refl
-or_true false b h = h
-
-distinct_step : (w x : ℕ) (xs : List ℕ) (b : Bool) → In w (cond b (distinct xs) (x ∷ distinct xs)) → (In w (distinct xs) → In w xs) → In w (x ∷ xs)
-distinct_step w x xs true h k = or_true (x == w) (list_any (λ y. y == w) xs) (k h)
-distinct_step w x xs false h k = elim (or_cases (x == w) (list_any (λ y. y == w) (distinct xs)) h) [ inl e ↦ rw e refl | inr m ↦ or_true (x == w) (list_any (λ y. y == w) xs) (k m) ]
-
-in_distinct : (w : ℕ) (xs : List ℕ) → In w (distinct xs) → In w xs
-in_distinct w [] h = h
-in_distinct w (x ∷ xs) h = distinct_step w x xs (list_any (λ y. y == x) xs) h (in_distinct w xs)
 
 pub units_named : (by : ℕ → ℕ) (c : ℕ) (s : State) (out : List Holding) (taken : List ℕ) (w : ℕ) → IsOwned by s → Ties by c s out taken → In w (units s c) → find (names w) out ≡ None → ⊥
 unfolding units

@@ -1,5 +1,5 @@
 -- The calls of a pass that has the turn, by those of the pool below.
-use Rattle.std.proofs.Common.{◌≡◌, ℕ, ◌<◌, ◌==◌, inl, inr, Bool, true, false, List, [], ◌∷◌, ◌++◌, Some, None, refl, ap, sym, ◌∙◌, arith, cond, subst, eq-eqb}
+use Rattle.std.proofs.Common.{◌≡◌, ℕ, ◌<◌, ◌==◌, ◌||◌, inl, inr, Bool, true, false, List, [], ◌∷◌, ◌++◌, length, drop, Some, None, refl, ap, sym, ◌∙◌, arith, cond, subst, eq-eqb}
 use Rattle.std.proofs.lemmas.List.Elements.{All-push}
 use Rattle.gw_wire.specs.Link.{LinkView}
 use Rattle.gw_pool.specs.declared.entry.Entry.{Entry}
@@ -10,7 +10,8 @@ use Rattle.gw_pool.specs.declared.rows.ConnRow.{ConnRow}
 use Rattle.gw_pool.specs.declared.leases.Ticket.{Ticket}
 use Rattle.gw_pool.specs.State.{State}
 use Rattle.gw_pool.specs.Machine.{Outcome, want_step}
-use Rattle.gw_pool.specs.History.{AreBelow, mine, refuses}
+use Rattle.gw_pool.specs.History.{IsLegal, AreBelow, mine, refuses}
+use Rattle.gw_pool.specs.Shelf.{is_among}
 use Rattle.gw_pool.specs.Tokens.{ticket_of}
 use Rattle.gw_pool.specs.Core.{CoreView, Enters, Started, Done, DonePut, CancelDone, IsBack, IsOut, IdleTaken as CoreIdle, IdleNot as CoreNot, IdleDone, state_at, WantMade as CoreMade, WantExpired as CoreExpired, AskTaken as CoreTaken, NotStarted}
 use Rattle.gw_pool.specs.Lent as lent
@@ -20,28 +21,16 @@ use Rattle.gw_pool.proofs.Numbers.{Numbers, legal_numbers}
 use Rattle.gw_pool.proofs.Inverts.{want_was}
 use Rattle.gw_pool.proofs.SoloCalls.{gone_some}
 use Rattle.gw_pool.proofs.TieWant.{made_want}
-use Rattle.gw_turn.specs.Owner.{made_by, made_by_reply, owner, owners_after, IsOwned}
-use Rattle.gw_turn.specs.Tie.{Moves}
+use Rattle.gw_pool.specs.Owner.{made_by, made_by_reply, made_in, owner, owners_after, IsOwned}
+use Rattle.gw_turn.specs.Tie.{Ties, Moves}
+use Rattle.gw_turn.proofs.Callers.{units_named}
+use Rattle.gw_pool.proofs.Mades.{made_last, made_is, mine_push, mine_one}
+use Rattle.std.proofs.lemmas.List.Folds.{list_any-append}
+use Rattle.std.proofs.Math.Seq.{drop-append_seam}
 use Rattle.gw_turn.specs.Meeting.{Meeting, Entering, Leaving, known}
-use Rattle.gw_turn.proofs.RowSteps.{MakesOr, makes_or}
-use Rattle.gw_turn.proofs.Owners.{owner_push, owners_none, owners_new, owners_old, legal_owned}
+use Rattle.gw_pool.proofs.RowSteps.{MakesOr, makes_or}
+use Rattle.gw_pool.proofs.Owners.{owner_push, owners_none, owners_new, owners_old, legal_owned}
 use Rattle.gw_turn.proofs.Moving.{move_same, move_expired, move_made}
-
--- the entries of a caller, with one more
-mine_step : (e : Entry) (c : ℕ) (xs : List Entry) (b : Bool) → (e.caller == c) ≡ b → (b ≡ true → ⊥) → cond b (e ∷ xs) xs ≡ xs
-mine_step e c xs true p n = absurd (n refl)
-mine_step e c xs false p n = refl
-
-mine_keep : (x e : Entry) (c : ℕ) (xs : List Entry) (b : Bool) → mine (xs ++ e ∷ []) c ≡ mine xs c ++ mine (e ∷ []) c → cond b (x ∷ mine (xs ++ e ∷ []) c) (mine (xs ++ e ∷ []) c) ≡ cond b (x ∷ mine xs c) (mine xs c) ++ mine (e ∷ []) c
-mine_keep x e c xs true h = ap (λ l. x ∷ l) h
-mine_keep x e c xs false h = h
-
-pub mine_push : (h : List Entry) (e : Entry) (c : ℕ) → mine (h ++ e ∷ []) c ≡ mine h c ++ mine (e ∷ []) c
-mine_push [] e c = refl
-mine_push (x ∷ h) e c = mine_keep x e c h (x.caller == c) (mine_push h e c)
-
-pub mine_one : (e : Entry) (c : ℕ) → e.caller ≡ c → mine (e ∷ []) c ≡ e ∷ []
-mine_one e c s = rw (eq-eqb e.caller c s)
 
 -- a call that makes an entry
 at_outcome : (core core' : CoreView) (caller : ℕ) (asked : Call) (outcome : Outcome) → Enters core core' caller asked outcome → state_at core' ≡ outcome.state
@@ -63,20 +52,40 @@ entering number core core' asked outcome out out' e m = record {
 callers_push : (l : Lent) (core core' : CoreView) (asked : Call) (outcome : Outcome) → Meeting l core → Enters core core' l.number asked outcome → AreBelow core.limits.passes core'.journal
 callers_push l core core' asked outcome m e = rw e.journal (All-push (λ entry. entry.caller < core.limits.passes) core.journal (entry_of l.number asked outcome.reply) m.callers m.below)
 
-pub calls : (l : Lent) (core core' : CoreView) (asked : Call) (outcome : Outcome) (out : List Holding) (waits : ℕ) (m : Meeting l core) → Enters core core' l.number asked outcome → Calls l (known l core' out waits) m.others asked outcome
-calls l core core' asked outcome out waits m e = record {
-  meets = record { limits = refl; number = refl; foreign = m.foreign; legal = rw (m.same_limits, ← e.limits) e.legal; callers = rw m.same_limits (callers_push l core core' asked outcome m e) };
+among_more : (w : ℕ) (xs ys : List ℕ) → is_among w xs ≡ true → is_among w (xs ++ ys) ≡ true
+among_more w xs ys e = list_any-append (λ v. v == w) xs ys ∙ ap (λ b. b || is_among w ys) e
+
+-- what stays in each call
+stays : (l : Lent) (core core' : CoreView) (out : List Holding) (waits : ℕ) (m : Meeting l core) → core'.limits ≡ core.limits → IsLegal core'.limits core'.journal → AreBelow core'.limits.passes core'.journal → Ties (owner core'.journal) l.number (state_at core') out core'.taken → Meets l (known l core' out waits) m.others
+stays l core core' out waits m same legal callers ties =
+    let limits : l.limits ≡ core'.limits = m.same_limits ∙ sym same in
+    record {
+      limits = refl;
+      few = m.few;
+      number = refl;
+      foreign = m.foreign;
+      legal = rw limits legal;
+      callers = rw limits callers;
+      own = refl;
+      named = λ v u e. units_named (owner core'.journal) l.number (state_at core') out core'.taken v (legal_owned core'.limits core'.journal legal) ties (rw limits at u) e;
+      fresh = λ v e. among_more v l.fresh (made_in (drop (length l.mine) (mine core'.journal l.number))) e;
+      ended = refl;
+    }
+
+pub calls : (l : Lent) (core core' : CoreView) (asked : Call) (outcome : Outcome) (out : List Holding) (waits : ℕ) (m : Meeting l core) → Enters core core' l.number asked outcome → Entering l.number core core' l.out out → Calls l (known l core' out waits) m.others asked outcome
+calls l core core' asked outcome out waits m e k = record {
+  meets = stays l core core' out waits m k.limits k.legal (rw e.limits (callers_push l core core' asked outcome m e)) k.leads.own;
   fits = rw (m.same_limits, m.since) e.fits;
   state = rw (m.same_limits, e.journal) (entered_state core.limits core.journal l.number asked outcome e.fits);
   seen = rw m.since e.journal;
   mine = ap (λ h. mine h l.number) e.journal ∙ mine_push core.journal (entry_of l.number asked outcome.reply) l.number ∙ rw (m.own, mine_one (entry_of l.number asked outcome.reply) l.number refl) refl;
 }
 
-pub looks : (l : Lent) (core core' : CoreView) (out : List Holding) (waits : ℕ) (m : Meeting l core) → core'.limits ≡ core.limits → core'.journal ≡ core.journal → Looks l (known l core' out waits) m.others
-looks l core core' out waits m a b = record {
-  meets = record { limits = refl; number = refl; foreign = m.foreign; legal = rw (m.same_limits, b) m.legal; callers = rw (m.same_limits, b) m.callers };
-  seen = rw m.since b;
-  mine = ap (λ h. mine h l.number) b ∙ m.own;
+pub looks : (l : Lent) (core core' : CoreView) (out : List Holding) (waits : ℕ) (m : Meeting l core) → Leaving l.number core core' l.out out → Looks l (known l core' out waits) m.others
+looks l core core' out waits m k = record {
+  meets = stays l core core' out waits m k.limits (rw (k.limits, k.journal) m.legal) (rw (k.limits, k.journal) m.callers) k.leads.own;
+  seen = rw m.since k.journal;
+  mine = ap (λ h. mine h l.number) k.journal ∙ m.own;
 }
 
 -- the state stays
@@ -94,6 +103,10 @@ pub owned : (l : Lent) (core : CoreView) → Meeting l core → IsOwned (owner c
 owned l core m = legal_owned core.limits core.journal m.legal
 
 -- want
+or_last : (a b : Bool) → b ≡ true → (a || b) ≡ true
+or_last true b e = refl
+or_last false b e = e
+
 made_owner : (l : Lent) (core : CoreView) (host now v : ℕ) → MakesOr (state_at core) (want_step core.limits (state_at core) l.number host now) → Rattle.gw_pool.specs.Core.IsMade v (want_step core.limits (state_at core) l.number host now).reply
     → made_by_reply (want_step core.limits (state_at core) l.number host now).reply ≡ Some (state_at core).next_want
 made_owner l core host now v (inl none) m = absurd (omega (arith, none.1, (made_want core.limits (state_at core) l.number host now v m).1))
@@ -148,31 +161,40 @@ enter_expired link l core core' host now conn m d =
     (owners_same (owner core.journal) (owners_after (owner core.journal) e) l.number s d.outcome.state core.taken core'.taken l.out l.out (λ w. owners_none (owner core.journal) e w none)
     (rw same (move_expired (owner core.journal) l.number core.limits s l.out core.taken core'.taken host now gone.0 m.ties gone' d.enters.taken)))
 
+-- the want is among those that the caller made since
+made_fresh : (l : Lent) (core core' : CoreView) (host now v w : ℕ) → Meeting l core → (d : CoreMade core core' l.number host now v) → lent.IsMade w d.outcome.reply → is_among w (l.fresh ++ made_in (drop (length l.mine) (mine core'.journal l.number))) ≡ true
+made_fresh l core core' host now v w m d made =
+    let e : Entry = entry_of l.number (call.Want host now) d.outcome.reply in
+    let own : mine core'.journal l.number ≡ l.mine ++ e ∷ [] = ap (λ h. mine h l.number) d.enters.journal ∙ mine_push core.journal e l.number ∙ rw (m.own, mine_one e l.number refl) refl in
+    let new : drop (length l.mine) (mine core'.journal l.number) ≡ e ∷ [] = ap (λ h. drop (length l.mine) h) own ∙ drop-append_seam l.mine (e ∷ []) in
+    rw new (list_any-append (λ u. u == w) l.fresh (made_in (e ∷ [])) ∙ or_last (is_among w l.fresh) (is_among w (made_in (e ∷ []))) (made_last [] e w (made_is w d.outcome.reply made)))
+
 pub want_made : (l : Lent) (core core' : CoreView) (host now v : ℕ) (ticket : Ticket) (waits : ℕ) → Meeting l core → CoreMade core core' l.number host now v → ticket.want ≡ v → ticket.host ≡ host → lent.WantMade l (known l core' (l.out ++ ticket_of v ∷ []) l.waits) host now ticket
 want_made l core core' host now v ticket waits m d a b = record {
   others = m.others;
   outcome = d.outcome;
-  calls = calls l core core' (call.Want host now) d.outcome (l.out ++ ticket_of v ∷ []) l.waits m d.enters;
+  calls = calls l core core' (call.Want host now) d.outcome (l.out ++ ticket_of v ∷ []) l.waits m d.enters (enter_made l core core' host now v m d);
   room = rw (m.same_limits, m.since) d.has_room;
   made = rw a d.is_made;
   names = b;
-  leaves = record { out = rw a refl; waits = refl };
+  fresh = made_fresh l core core' host now v ticket.want m d (rw a d.is_made);
+  leaves = record { out = rw a refl; waits = refl; audit_failed = refl };
 }
 
 pub want_expired : {C : Type 0} (link : C → LinkView) (l : Lent) (core core' : CoreView) (host now : ℕ) (conn : C) → Meeting l core → CoreExpired link core core' l.number host now conn → lent.WantExpired link l (known l core' l.out l.waits) host now conn
 want_expired link l core core' host now conn m d = record {
   others = m.others;
   outcome = d.outcome;
-  calls = calls l core core' (call.Want host now) d.outcome l.out l.waits m d.enters;
+  calls = calls l core core' (call.Want host now) d.outcome l.out l.waits m d.enters (enter_expired link l core core' host now conn m d);
   room = rw (m.same_limits, m.since) d.has_room;
   close = d.close;
-  leaves = record { out = refl; waits = refl };
+  leaves = record { out = refl; waits = refl; audit_failed = refl };
 }
 
 pub want_full : (l : Lent) (core core' : CoreView) → Meeting l core → core' ≡ core → refuses core.limits core.journal ≡ true → lent.WantFull l (known l core' l.out l.waits)
 want_full l core core' m e f = record {
   others = m.others;
-  looks = looks l core core' l.out l.waits m (ap (λ c. c.limits) e) (ap (λ c. c.journal) e);
+  looks = looks l core core' l.out l.waits m (leaving_same l core core' m e);
   full = rw (m.same_limits, e) f;
-  leaves = record { out = refl; waits = refl };
+  leaves = record { out = refl; waits = refl; audit_failed = refl };
 }

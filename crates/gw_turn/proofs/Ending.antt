@@ -18,9 +18,9 @@ use Rattle.gw_pool.proofs.Ties.{decide, one_other}
 use Rattle.gw_pool.proofs.TieWant.{quiet_of}
 use Rattle.gw_turn.specs.declared.view.Member.{Member}
 use Rattle.gw_turn.specs.declared.view.PassView.{PassView}
-use Rattle.gw_turn.specs.Owner.{made_by, owners_after, owners_from, owner}
+use Rattle.gw_pool.specs.Owner.{made_by, owners_after, owners_from, owner}
 use Rattle.gw_turn.specs.Tie.{Ties}
-use Rattle.gw_turn.specs.Turn.{TurnState, members_of, spent, total, turns, size, counts, core_at, IsKept}
+use Rattle.gw_turn.specs.Turn.{TurnState, Begins, members_of, spent, total, turns, size, counts, core_at, IsKept}
 use Rattle.gw_turn.specs.Steps.{PassMe, took, Ends, IsIn}
 use Rattle.gw_turn.proofs.Sums.{total_two, total_alone}
 use Rattle.gw_turn.proofs.Views.{live_members}
@@ -89,6 +89,10 @@ joined_in : (journal : List Entry) (ms : List Member) → ((m : Member) → Amon
 joined_in journal [] f = All-nil (IsIn journal)
 joined_in journal (m ∷ ms) f = All-cons (IsIn journal) m ms (f m (inl refl)) (joined_in journal ms (λ x a. f x (inr a)))
 
+past_in : (journal : List Entry) (xs : List (List Entry)) → ((x : List Entry) → Among x xs → Begins journal x) → All (Begins journal) xs
+past_in journal [] f = All-nil (Begins journal)
+past_in journal (x ∷ xs) f = All-cons (Begins journal) x xs (f x (inl refl)) (past_in journal xs (λ y a. f y (inr a)))
+
 spent_joined : (ms : List Member) → All (λ m. m.out ≡ []) ms → (m : Member) → Among m ms → m.out ≡ []
 spent_joined [] all m a = absurd a
 spent_joined (x ∷ xs) all m (inl e) = ap (λ (y : Member). y.out) (sym e) ∙ All-head (λ m. m.out ≡ []) x xs all
@@ -138,6 +142,7 @@ ends limits slots id me live idle all none_out s kept slot at small =
         met = record { core = core; view = refl; slots = refl; meeting = met limits s kept id v at live };
         whole = seen_all limits s kept id v at live others;
         fellows = joined_in kept.history v.joined (λ m a. let k = fits.members m (subst (λ l. Among m l) (sym (live_members v live)) (inr a)) in (k.own, k.begins));
+        past = past_in kept.history v.past fits.past;
         quiet = quiet limits s kept id v at whole (omega (arith, below)) none_out;
       },
     ))

@@ -13,7 +13,7 @@ use Rattle.gw_pool.specs.Ties.{Among, one, bit}
 use Rattle.gw_pool.proofs.Ties.{decide}
 use Rattle.gw_turn.specs.declared.view.Member.{Member}
 use Rattle.gw_turn.specs.declared.view.PassView.{PassView}
-use Rattle.gw_turn.specs.Turn.{members_of, spent, begun, total, turns, size, counts, IsKnown, Fits, IsKept}
+use Rattle.gw_turn.specs.Turn.{Begins, members_of, spent, begun, total, turns, size, counts, IsKnown, Fits, IsKept}
 use Rattle.gw_turn.specs.Steps.{Others, split_left, split_right, right_of, longer, joined}
 use Rattle.gw_turn.proofs.Sums.{total_set, total_snoc, there_below}
 use Rattle.gw_turn.proofs.Views.{live_members, knows_more}
@@ -37,7 +37,7 @@ among_append_l m [] ys a = absurd a
 among_append_l m (x ∷ xs) ys (inl e) = inl e
 among_append_l m (x ∷ xs) ys (inr a) = inr (among_append_l m xs ys a)
 
-among_either : (m : Member) (xs ys : List Member) → Among m (xs ++ ys) → Among m xs ⊎ Among m ys
+among_either : {X : Type 0} (m : X) (xs ys : List X) → Among m (xs ++ ys) → Among m xs ⊎ Among m ys
 among_either m [] ys a = inr a
 among_either m (x ∷ xs) ys (inl e) = inl (inl e)
 among_either m (x ∷ xs) ys (inr a) = elim (among_either m xs ys a) [ inl b ↦ inl (inr b) | inr b ↦ inr b ]
@@ -61,6 +61,7 @@ splits_to limits id v m ms live idle is s kept at =
     record {
       two_words = kept.two_words;
       one_slot = kept.one_slot;
+      few = kept.few;
       history = kept.history;
       taken = kept.taken;
       legal = kept.legal;
@@ -98,6 +99,7 @@ splits_to limits id v m ms live idle is s kept at =
             gone = λ f. off v.live live f;
             same_limits = fits.same_limits;
             members = λ x a. fits.members x (elim (subst (λ l. Among x l) (live_members left live) a) [ inl e ↦ subst (λ y. Among y (members_of v)) e (is_own v live) | inr b ↦ absurd b ]);
+            past = fits.past;
             holds = fits.holds;
           }))
           (λ (other : (j ≢ id) × (get_elem? s.views j ≡ some u)). kept.each j u other.1)
@@ -106,6 +108,7 @@ splits_to limits id v m ms live idle is s kept at =
             gone = λ f. absurd (cc);
             same_limits = λ _. fits.same_limits live;
             members = λ x a. fits.members x (of_joined x a);
+            past = λ x a. absurd a;
             holds = λ f. absurd (cc);
           }))
           (at_snoc middle right u j there);
@@ -152,6 +155,11 @@ longer_left h xs ys b e q = elim (longer_is xs ys) [ inl l ↦ l.0 ∙ e | inr l
 longer_right : (h xs ys a : List Entry) → ys ≡ h → xs ++ a ≡ h → longer xs ys ≡ h
 longer_right h xs ys a e p = elim (longer_is xs ys) [ inr l ↦ l.0 ∙ e | inl l ↦ l.0 ∙ whole_of xs a h p (let n : length ys ≡ length h = ap length e in omega (arith, n, l.1)) ]
 
+-- the histories that were seen when others were joined
+past_both : {history : List Entry} (seen : List Entry) (xs ys : List (List Entry)) → Begins history seen → ((x : List Entry) → Among x xs → Begins history x) → ((x : List Entry) → Among x ys → Begins history x) → (x : List Entry) → Among x (seen ∷ (xs ++ ys)) → Begins history x
+past_both {history = history} seen xs ys b f g x (inl e) = subst (λ h. Begins history h) e b
+past_both seen xs ys b f g x (inr a) = elim (among_either x xs ys a) [ inl p ↦ f x p | inr p ↦ g x p ]
+
 -- a join
 pub joins : (limits : Limits) (id : ℕ) (v : PassView) (other : ℕ) (w : PassView) → v.live ≡ true → w.live ≡ true → v.turn ≡ false → w.turn ≡ false → Joins (IsKept limits) id v other w (joined v w) spent
 joins limits id v other w live live' idle idle' s kept at apart there =
@@ -170,6 +178,7 @@ joins limits id v other w live live' idle idle' s kept at apart there =
     record {
       two_words = kept.two_words;
       one_slot = kept.one_slot;
+      few = kept.few;
       history = kept.history;
       taken = kept.taken;
       legal = kept.legal;
@@ -205,6 +214,7 @@ joins limits id v other w live live' idle idle' s kept at apart there =
             gone = λ _. refl;
             same_limits = λ f. absurd (cc);
             members = λ x a. absurd a;
+            past = λ x a. absurd a;
             holds = λ f. absurd (cc);
           }))
           (λ (e : (j ≢ other) × (get_elem? middle j ≡ some u)). ⊎_elim
@@ -215,6 +225,7 @@ joins limits id v other w live live' idle idle' s kept at apart there =
               | inl f ↦ subst (λ y. IsKnown limits kept.history kept.taken y) f (seen_more limits kept.history kept.taken w.own.seen their_own.begins.0 v.own their_own.begins.1 mine_own)
               | inr b ↦ elim (among_either x v.joined (w.own ∷ w.joined) b) [ inl f ↦ mine_fits.members x (in_joined x v live f) | inr f ↦ their_fits.members x (subst (λ l. Among x l) (sym (live_members w live')) f) ]
             ];
+            past = past_both v.own.seen v.past w.past mine_own.begins mine_fits.past their_fits.past;
             holds = λ f. off v.turn f idle;
           }))
           (λ (else : (j ≢ id) × (get_elem? s.views j ≡ some u)). kept.each j u else.1)

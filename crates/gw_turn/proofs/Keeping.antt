@@ -14,15 +14,15 @@ use Rattle.gw_pool.specs.Core.{CoreView}
 use Rattle.gw_pool.specs.Ties.{Among, one, bit}
 use Rattle.gw_turn.specs.declared.view.Member.{Member}
 use Rattle.gw_turn.specs.declared.view.PassView.{PassView}
-use Rattle.gw_turn.specs.Owner.{owner}
+use Rattle.gw_pool.specs.Owner.{owner}
 use Rattle.gw_turn.specs.Tie.{Fresh}
 use Rattle.gw_turn.specs.Meeting.{Meeting, Entering, Leaving}
-use Rattle.gw_turn.specs.Turn.{TurnState, members_of, total, turns, size, counts, core_at, IsKnown, Fits, IsKept}
+use Rattle.gw_turn.specs.Turn.{TurnState, Begins, members_of, total, turns, size, counts, core_at, IsKnown, Fits, IsKept}
 use Rattle.gw_turn.specs.Steps.{lent_of, core_of, took, counted, released, PassMe, Tries}
 use Rattle.gw_turn.proofs.Sums.{total_set, total_at, total_two, there_below, words_turn, words_count, count_turn, count_count}
 use Rattle.gw_turn.proofs.Views.{live_members, joined_other, other_view, none_since}
 use Rattle.gw_turn.proofs.Moving.{spared}
-use Rattle.gw_turn.proofs.CoreCalls.{mine_push}
+use Rattle.gw_pool.proofs.Mades.{mine_push}
 
 -- what a step of one pass asks of the new state
 record Change (limits : Limits) (s : TurnState) (kept : IsKept limits s) (id : ℕ) (v w : PassView) (words : List ℕ) (homes : List (mathlib.Core.Option.Option (Option CoreView))) (history : List Entry) (taken : List ℕ) : Type 0 where
@@ -31,8 +31,9 @@ record Change (limits : Limits) (s : TurnState) (kept : IsKept limits s) (id : �
   limits_are : w.limits ≡ v.limits
   number : w.own.number ≡ v.own.number
   joined : w.joined ≡ v.joined
-  two_words : length words ≡ 2
-  one_slot : length homes ≡ 1
+  past : w.past ≡ v.past
+  two_words : 2 ≤ length words
+  one_slot : 1 ≤ length homes
   legal : IsLegal limits history
   callers : AreBelow limits.passes history
   fresh : Fresh (after limits history) taken
@@ -63,6 +64,9 @@ same_members f v w a b e j = rw (live_members v a, live_members w b, j) (own_fir
 same_size : (v w : PassView) → v.live ≡ true → w.live ≡ true → w.joined ≡ v.joined → size w ≡ size v
 same_size v w a b j = rw (live_members v a, live_members w b, j) refl
 
+begins_on : (history since whole seen : List Entry) → history ++ since ≡ whole → Begins history seen → Begins whole seen
+begins_on history since whole seen e b = (b.0 ++ since, sym (append_assoc seen b.0 since) ∙ ap (λ l. l ++ since) b.1 ∙ e)
+
 known_at : (limits : Limits) (history : List Entry) (taken : List ℕ) (m n : Member) → m ≡ n → IsKnown limits history taken m → IsKnown limits history taken n
 known_at limits history taken m n e k = rw (sym e) k
 
@@ -71,6 +75,7 @@ changed_at : (limits : Limits) (s : TurnState) (kept : IsKept limits s) (id : �
 changed_at limits s kept id v w words homes history taken at c = record {
   two_words = c.two_words;
   one_slot = c.one_slot;
+  few = kept.few;
   history = history;
   taken = taken;
   legal = c.legal;
@@ -96,6 +101,7 @@ changed_at limits s kept id v w words homes history taken at c = record {
             let b : Among m v.joined = subst (λ l. Among m l) c.joined a in
             c.others m (joined_other s.views id v m (few limits s kept) at c.live b) ((kept.each id v at).members m (subst (λ l. Among m l) (sym (live_members v c.live)) (inr b))))
             (subst (λ l. Among m l) (live_members w c.live') a);
+        past = λ x a. begins_on kept.history c.more.0 history x c.more.1 ((kept.each id v at).past x (subst (λ l. Among x l) c.past a));
         holds = c.holds;
       }))
       (λ (other : (j ≢ id) × (get_elem? s.views j ≡ some u)).
@@ -104,6 +110,7 @@ changed_at limits s kept id v w words homes history taken at c = record {
         gone = fits.gone;
         same_limits = fits.same_limits;
         members = λ m a. c.others m (other_view s.views id j v u m (few limits s kept) other.0 at other.1 c.live a) (fits.members m a);
+        past = λ x a. begins_on kept.history c.more.0 history x c.more.1 (fits.past x a);
         holds = λ e. absurd (let free = c.sole j u other.0 other.1 in cc);
       })
       (at_set s.views id j w u there);
@@ -152,6 +159,7 @@ met limits s kept id v at live =
       legal = kept.legal;
       callers = kept.callers;
       below = own.below;
+      few = rw (fits.same_limits live) kept.few;
       fresh = kept.fresh;
       ties = own.ties;
     }
@@ -172,8 +180,9 @@ takes_free limits id me s kept at live idle zero_turns =
       limits_are = refl;
       number = refl;
       joined = refl;
-      two_words = length-set s.words 0 1 ∙ kept.two_words;
-      one_slot = length-set s.homes 0 none ∙ kept.one_slot;
+      past = refl;
+      two_words = rw (length-set s.words 0 1) kept.two_words;
+      one_slot = rw (length-set s.homes 0 none) kept.one_slot;
       legal = kept.legal;
       callers = kept.callers;
       fresh = kept.fresh;
@@ -217,7 +226,7 @@ tries limits slots id me live idle s kept _ at _ =
       record { had = λ e. absurd (busy e); kept = λ ne. refl },
     ))
   where
-    same_words : (words : List ℕ) → length words ≡ 2 → set words 0 (slice_index words 0) ≡ words
+    same_words : (words : List ℕ) → 2 ≤ length words → set words 0 (slice_index words 0) ≡ words
     same_words [] e = absurd (omega arith)
     same_words (x ∷ xs) e = refl
 
@@ -261,7 +270,8 @@ counts_core limits slots id me h' t' out count s kept at live has e is =
       limits_are = refl;
       number = refl;
       joined = refl;
-      two_words = length-set s.words 1 count ∙ kept.two_words;
+      past = refl;
+      two_words = rw (length-set s.words 1 count) kept.two_words;
       one_slot = kept.one_slot;
       legal = e.legal;
       callers = rw e.journal (Rattle.std.proofs.lemmas.List.Elements.All-push (λ entry. entry.caller < limits.passes) kept.history e.entry kept.callers (rw e.caller own.below));
@@ -318,8 +328,9 @@ releases_core limits slots id v t' out waits s kept at live has e =
       limits_are = refl;
       number = refl;
       joined = refl;
-      two_words = length-set s.words 0 0 ∙ kept.two_words;
-      one_slot = length-set s.homes 0 (some (Some core)) ∙ kept.one_slot;
+      past = refl;
+      two_words = rw (length-set s.words 0 0) kept.two_words;
+      one_slot = rw (length-set s.homes 0 (some (Some core))) kept.one_slot;
       legal = kept.legal;
       callers = kept.callers;
       fresh = e.leads.fresh kept.fresh;

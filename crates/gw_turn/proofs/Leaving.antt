@@ -1,10 +1,15 @@
 -- A turn that ends as it began.
-use Rattle.std.proofs.Common.{◌≡◌, ◌∙◌, ℕ, sym, ap, List, [], ◌∷◌, Option, Some}
+use Rattle.std.proofs.Common.{◌≡◌, ◌∙◌, ℕ, refl, sym, ap, List, [], ◌∷◌, ◌++◌, length, drop, Option, Some, append-nil}
+use Rattle.std.proofs.Math.Seq.{drop-length}
+use Rattle.atomic_table.specs.Seated.{TableId}
+use Rattle.gw_pool.specs.History.{mine}
+use Rattle.gw_pool.specs.Owner.{made_in}
+use Rattle.gw_turn.specs.Pass.{state_of}
 use Rattle.gw_pool.specs.declared.holding.Holding.{Holding}
 use Rattle.gw_pool.specs.Core.{CoreView}
 use Rattle.gw_turn.specs.declared.view.PassView.{PassView}
 use Rattle.gw_turn.specs.Meeting.{Meeting, Entering, Leaving}
-use Rattle.gw_turn.specs.Steps.{lent_of, core_of, took, slot_core}
+use Rattle.gw_turn.specs.Steps.{lent_of, core_of, took, released, slot_core}
 use Rattle.gw_turn.proofs.CoreCalls.{leaving_same}
 
 -- the state that a pass with the turn speaks of is the one that it met
@@ -25,3 +30,17 @@ slot_same a b xs slots e f = sym (ap slot_core e) ∙ ap slot_core f
 
 pub view_same : (v w : PassView) (views : List PassView) → views ≡ v ∷ [] → views ≡ w ∷ [] → v ≡ w
 view_same v w views e f = let both = sym e ∙ f in cc
+
+-- a turn that ends as it began leaves a pass what it was, where it had seen everything
+none_fresh : (fresh : List ℕ) (own : List Rattle.gw_pool.specs.declared.entry.Entry.Entry) → fresh ++ made_in (drop (length own) own) ≡ fresh
+none_fresh fresh own = ap (λ h. fresh ++ made_in h) (drop-length own) ∙ append-nil fresh
+
+lent_back : (v : PassView) (core : CoreView) (out : List Holding) (waits : ℕ) → Meeting (lent_of v) core → v.own.seen ≡ core.journal → out ≡ v.own.out → waits ≡ v.waits → lent_of (released core out waits v) ≡ lent_of v
+lent_back v core out waits m whole o ws =
+    let own : mine v.own.seen v.own.number ≡ v.own.mine = rw whole m.own in
+    rw (← whole, o, ws, own, none_fresh v.fresh v.own.mine) refl
+
+pub state_back : (table : TableId) (v w : PassView) (core core' : CoreView) (out : List Holding) (waits : ℕ) → w ≡ took core v → core' ≡ core → Meeting (lent_of v) core → v.own.seen ≡ core.journal → out ≡ v.own.out → waits ≡ v.waits
+    → state_of table (released core' out waits w ∷ []) ≡ state_of table (v ∷ [])
+state_back table v w core core' out waits e same m whole o ws =
+    rw (e, same) (ap (λ l. record { pool = table; lent = l; joined = v.joined; past = v.past }) (lent_back v core out waits m whole o ws))

@@ -17,7 +17,7 @@ use Rattle.gw_pool.proofs.Ties.{decide, one_same, one_other}
 use Rattle.gw_pool.proofs.Weights.{weight}
 use Rattle.gw_turn.specs.declared.view.Member.{Member}
 use Rattle.gw_turn.specs.declared.view.PassView.{PassView}
-use Rattle.gw_turn.specs.Owner.{owner}
+use Rattle.gw_pool.specs.Owner.{owner}
 use Rattle.gw_turn.specs.Tie.{Ties}
 use Rattle.gw_turn.specs.Turn.{unused, unused_from, begun, first_view, IsKnown, Fits, IsKept}
 use Rattle.gw_turn.specs.Steps.{Others, right_of, split_left, split_right}
@@ -84,6 +84,7 @@ first_fits limits l = record {
   gone = λ e. absurd (cc);
   same_limits = λ _. refl;
   members = λ m a. let r = among_unused 0 limits.passes m (subst (λ x. Among m x) (all_unused limits.passes l) a) in let below = r.2 in unused_known limits r.0 m r.1 (omega (arith, below));
+  past = λ x a. absurd a;
   holds = λ e. absurd (cc);
 }
 
@@ -91,11 +92,12 @@ fits_at : (limits : Limits) → 0 < limits.passes → (id : ℕ) (v : PassView) 
 fits_at limits l zero v e = subst (λ w. Fits limits [] [] w) (some-injective (first_view limits) v e) (first_fits limits l)
 fits_at limits l (suc id) v e = absurd (some-ne-none v (sym e))
 
-pub opened : (limits : Limits) (core : CoreView) → 0 < limits.passes → core.limits ≡ limits → core.journal ≡ [] → core.taken ≡ [] → IsKept limits (opening (0 ∷ 0 ∷ []) (Some core ∷ []) (first_view limits))
+pub opened : (limits : Limits) (core : CoreView) → 0 < limits.passes → 0 < limits.per_pass → core.limits ≡ limits → core.journal ≡ [] → core.taken ≡ [] → IsKept limits (opening (0 ∷ 0 ∷ []) (Some core ∷ []) (first_view limits))
 unfolding IsLegal
-opened limits core l a b c = record {
-  two_words = refl;
-  one_slot = refl;
+opened limits core l few a b c = record {
+  two_words = omega arith;
+  one_slot = omega arith;
+  few = few;
   history = [];
   taken = [];
   legal = tt;

@@ -26,12 +26,13 @@ use Rattle.gw_pool.proofs.Edits.{found_passes}
 use Rattle.gw_pool.proofs.Owns.{found_among}
 use Rattle.gw_pool.proofs.SoloCalls.{not_coming_rows}
 use Rattle.gw_pool.proofs.TieCalls.{leased_has}
-use Rattle.gw_turn.specs.Owner.{owner}
+use Rattle.gw_pool.specs.Owner.{owner}
 use Rattle.gw_turn.specs.Tie.{Moves}
 use Rattle.gw_turn.specs.Meeting.{Meeting, Entering, Leaving, known}
 use Rattle.gw_turn.proofs.Moving.{move_drop, move_back, move_cancel, move_cancel_conn, move_none, move_lease, move_start, move_failed, move_dialed, move_idle}
-use Rattle.gw_turn.proofs.Callers.{want_caller, dial_caller, conn_caller, served_place, served_number, ticket_own, dial_own}
-use Rattle.gw_turn.proofs.Staying.{stays}
+use Rattle.gw_pool.proofs.Callers.{want_caller, dial_caller, conn_caller, served_place, served_number}
+use Rattle.gw_pool.proofs.Staying.{leases_stay}
+use Rattle.gw_turn.proofs.Callers.{ticket_own, dial_own}
 use Rattle.gw_turn.proofs.CoreCalls.{calls, looks, entering, leaving, leaving_same, numbers, owned}
 
 -- start
@@ -54,19 +55,19 @@ pub start_go : (l : Lent) (core core' : CoreView) (t : Ticket) (d : DialToken) �
 start_go l core core' t d m k s a b = record {
   others = m.others;
   outcome = s.outcome;
-  calls = calls l core core' (call.Start t.want) s.outcome (change t.want with_dial l.out) l.waits m (start_enters l core core' t.want m k s);
+  calls = calls l core core' (call.Start t.want) s.outcome (change t.want with_dial l.out) l.waits m (start_enters l core core' t.want m k s) (enter_start l core core' t.want m k s);
   reply = s.is_go;
   want = a;
   host = b;
-  leaves = record { out = refl; waits = refl };
+  leaves = record { out = refl; waits = refl; audit_failed = refl };
 }
 
 pub start_not : (l : Lent) (core core' : CoreView) (t : Ticket) → Meeting l core → NotStarted core core' t.want → lent.StartNot l (known l core' l.out l.waits) t
 start_not l core core' t m s = record {
   others = m.others;
-  looks = looks l core core' l.out l.waits m (ap (λ c. c.limits) s.same) (ap (λ c. c.journal) s.same);
+  looks = looks l core core' l.out l.waits m (leaving_same l core core' m s.same);
   stands = rw (m.same_limits, m.since) (s.unfit l.number);
-  leaves = record { out = refl; waits = refl };
+  leaves = record { out = refl; waits = refl; audit_failed = refl };
 }
 
 -- dial_failed and dialed
@@ -87,8 +88,8 @@ pub dial_failed : (l : Lent) (core core' : CoreView) (t : DialToken) → Meeting
 dial_failed l core core' t m k d = record {
   others = m.others;
   outcome = d.outcome;
-  calls = calls l core core' (call.DialFailed t.want) d.outcome (change t.want without_dial l.out) l.waits m (failed_enters l core core' t.want m k d);
-  leaves = record { out = refl; waits = refl };
+  calls = calls l core core' (call.DialFailed t.want) d.outcome (change t.want without_dial l.out) l.waits m (failed_enters l core core' t.want m k d) (enter_failed l core core' t.want m k d);
+  leaves = record { out = refl; waits = refl; audit_failed = refl };
 }
 
 dialed_enters : {C : Type 0} (link : C → LinkView) (l : Lent) (core core' : CoreView) (w number now : ℕ) (close : Option C) → Meeting l core → has_dial w l.out ≡ true → (d : DonePut link core core' (call.Dialed w number now) close) → Enters core core' l.number (call.Dialed w number now) d.outcome
@@ -108,9 +109,9 @@ pub dialed : {C : Type 0} (link : C → LinkView) (l : Lent) (core core' : CoreV
 dialed link l core core' t number now put m k d = record {
   others = m.others;
   outcome = d.outcome;
-  calls = calls l core core' (call.Dialed t.want number now) d.outcome (change t.want without_dial l.out) l.waits m (dialed_enters link l core core' t.want number now put.close m k d);
+  calls = calls l core core' (call.Dialed t.want number now) d.outcome (change t.want without_dial l.out) l.waits m (dialed_enters link l core core' t.want number now put.close m k d) (enter_dialed link l core core' t.want number now put.close m k d);
   close = d.closes;
-  leaves = record { out = refl; waits = refl };
+  leaves = record { out = refl; waits = refl; audit_failed = refl };
 }
 
 -- ask
@@ -135,37 +136,37 @@ ask_taken link l core core' t conn number reused host linked m k d e =
     let found : find (has_number number) (state_at core).conns ≡ Some d.row = rw d.is_no (served_number (state_at core) t.want d.row (numbers l core m) d.stands) in
     record {
       others = m.others;
-      looks = looks l core core' (change t.want leased l.out) l.waits m d.limits d.journal;
+      looks = looks l core core' (change t.want leased l.out) l.waits m (leave_taken link l core core' t.want conn number reused host m k d);
       stands = rw (m.same_limits, m.since) (d.stands ∙ ap (λ r. Served r) same);
       want = refl;
       lease = record { out = leased_has t.want l.out m.ties.once k; row = rw (m.same_limits, d.journal) (found ∙ ap (λ r. Some r) same); conn = sym e };
-      leaves = record { out = refl; waits = refl };
+      leaves = record { out = refl; waits = refl; audit_failed = refl };
     }
 
 pub ask_granted : (l : Lent) (core core' : CoreView) (t : Ticket) → Meeting l core → standing (state_at core) t.want ≡ MayDial → core' ≡ core → lent.AskGranted l (known l core' l.out l.waits) t t
 ask_granted l core core' t m st e = record {
   others = m.others;
-  looks = looks l core core' l.out l.waits m (ap (λ c. c.limits) e) (ap (λ c. c.journal) e);
+  looks = looks l core core' l.out l.waits m (leaving_same l core core' m e);
   stands = rw (m.same_limits, m.since) st;
   same = refl;
-  leaves = record { out = refl; waits = refl };
+  leaves = record { out = refl; waits = refl; audit_failed = refl };
 }
 
 pub ask_not_yet : (l : Lent) (core core' : CoreView) (t : Ticket) (waits : ℕ) → Meeting l core → standing (state_at core) t.want ≡ NotServed → core' ≡ core → waits ≡ Rattle.std.specs.Prelude.min (l.waits + 1) (Rattle.std.specs.Prelude.◌-◌ (Rattle.std.specs.Prelude.◌^◌ 2 64) 1) → lent.AskNotYet l (known l core' l.out waits) t t
 ask_not_yet l core core' t waits m st e w = record {
   others = m.others;
-  looks = looks l core core' l.out waits m (ap (λ c. c.limits) e) (ap (λ c. c.journal) e);
-  stands = rw (m.same_limits, m.since) st;
+  looks = looks l core core' l.out waits m (leaving_same l core core' m e);
+  stands = λ fresh only. rw (m.same_limits, m.since) st;
   same = refl;
-  leaves = record { out = refl; waits = w };
+  leaves = record { out = refl; waits = w; audit_failed = refl };
 }
 
-pub ask_failed : (l : Lent) (core core' : CoreView) (t : Ticket) → Meeting l core → standing (state_at core) t.want ≡ NotComing → core' ≡ core → lent.AskFailed l (known l core' (change t.want without_ticket l.out) l.waits) t
-ask_failed l core core' t m st e = record {
+pub ask_failed : (l : Lent) (core core' : CoreView) (t : Ticket) → Meeting l core → has_ticket t.want l.out ≡ true → standing (state_at core) t.want ≡ NotComing → core' ≡ core → lent.AskFailed l (known l core' (change t.want without_ticket l.out) l.waits) t
+ask_failed l core core' t m k st e = record {
   others = m.others;
-  looks = looks l core core' (change t.want without_ticket l.out) l.waits m (ap (λ c. c.limits) e) (ap (λ c. c.journal) e);
+  looks = looks l core core' (change t.want without_ticket l.out) l.waits m (leave_none l core core' t.want m k e st);
   stands = rw (m.same_limits, m.since) st;
-  leaves = record { out = refl; waits = refl };
+  leaves = record { out = refl; waits = refl; audit_failed = refl };
 }
 
 -- cancel
@@ -198,7 +199,7 @@ pub lease_row : {C : Type 0} (link : C → LinkView) (l : Lent) (core : CoreView
 lease_row link l core lease m k =
     let seen : find (has_number lease.no) (after core.limits l.seen).conns ≡ Some (row_of l.number lease) = rw (← m.same_limits) k.row in
     subst (λ h. find (has_number lease.no) (after core.limits h).conns ≡ Some (row_of l.number lease)) m.since
-    (stays core.limits l.seen m.others l.number lease.want (row_of l.number lease) (rw m.since m.legal) m.foreign seen refl)
+    (leases_stay core.limits l.seen m.others l.number lease.want (row_of l.number lease) (rw m.since m.legal) (rw m.foreign refl) seen refl)
 
 same_row : (s : State) (n : ℕ) (a b : ConnRow) → find (has_number n) s.conns ≡ Some a → find (has_number n) s.conns ≡ Some b → a ≡ b
 same_row s n a b e f = let both = sym e ∙ f in cc
@@ -225,9 +226,9 @@ pub back_step : {C : Type 0} (link : C → LinkView) (l : Lent) (core core' : Co
 back_step link l core core' lease now put m k d = record {
   others = m.others;
   outcome = d.outcome;
-  calls = calls l core core' (call.GiveBack lease.no now) d.outcome (change lease.want without_lease l.out) l.waits m (back_enters link l core core' lease now put.close m k d);
+  calls = calls l core core' (call.GiveBack lease.no now) d.outcome (change lease.want without_lease l.out) l.waits m (back_enters link l core core' lease now put.close m k d) (enter_back link l core core' lease now put.close m k d);
   close = d.closes;
-  leaves = record { out = refl; waits = refl };
+  leaves = record { out = refl; waits = refl; audit_failed = refl };
 }
 
 pub back_requires : {C : Type 0} (link : C → LinkView) (l : Lent) (core : CoreView) (lease : Lease C) → Meeting l core → LeaseOf link l lease → IsBack link lease.conn (find (has_number lease.no) (state_at core).conns)
@@ -252,37 +253,37 @@ pub drop_step : {C : Type 0} (link : C → LinkView) (l : Lent) (core core' : Co
 drop_step link l core core' lease m k d = record {
   others = m.others;
   outcome = d.outcome;
-  calls = calls l core core' (call.Drop lease.no) d.outcome (change lease.want without_lease l.out) l.waits m (drop_enters link l core core' lease m k d);
-  leaves = record { out = refl; waits = refl };
+  calls = calls l core core' (call.Drop lease.no) d.outcome (change lease.want without_lease l.out) l.waits m (drop_enters link l core core' lease m k d) (enter_drop link l core core' lease m k d);
+  leaves = record { out = refl; waits = refl; audit_failed = refl };
 }
 
 pub drop_requires : {C : Type 0} (link : C → LinkView) (l : Lent) (core : CoreView) (lease : Lease C) → Meeting l core → LeaseOf link l lease → IsOut (find (has_number lease.no) (state_at core).conns)
 drop_requires link l core lease m k = rw (lease_row link l core lease m k) refl
 
 -- expire and close_idle
-pub enter_idle : {C : Type 0} (link : C → LinkView) (l : Lent) (core core' : CoreView) (asked : Call) (conn : C) → Meeting l core → (d : CoreIdle link core core' l.number asked conn) → IdleWas (state_at core) d.outcome → Rattle.gw_turn.specs.Owner.made_by asked d.outcome.reply ≡ None → Entering l.number core core' l.out l.out
+pub enter_idle : {C : Type 0} (link : C → LinkView) (l : Lent) (core core' : CoreView) (asked : Call) (conn : C) → Meeting l core → (d : CoreIdle link core core' l.number asked conn) → IdleWas (state_at core) d.outcome → Rattle.gw_pool.specs.Owner.made_by asked d.outcome.reply ≡ None → Entering l.number core core' l.out l.out
 enter_idle link l core core' asked conn m d was none =
     let same = was.same in
-    let owners : (w : ℕ) → Rattle.gw_turn.specs.Owner.owners_after (owner core.journal) (lent.entry_of l.number asked d.outcome.reply) w ≡ owner core.journal w = λ w. Rattle.gw_turn.proofs.Owners.owners_none (owner core.journal) (lent.entry_of l.number asked d.outcome.reply) w none in
+    let owners : (w : ℕ) → Rattle.gw_pool.specs.Owner.owners_after (owner core.journal) (lent.entry_of l.number asked d.outcome.reply) w ≡ owner core.journal w = λ w. Rattle.gw_pool.proofs.Owners.owners_none (owner core.journal) (lent.entry_of l.number asked d.outcome.reply) w none in
     entering l.number core core' asked d.outcome l.out l.out d.enters
-    (Rattle.gw_turn.proofs.CoreCalls.owners_same (owner core.journal) (Rattle.gw_turn.specs.Owner.owners_after (owner core.journal) (lent.entry_of l.number asked d.outcome.reply)) l.number (state_at core) d.outcome.state core.taken core'.taken l.out l.out owners
+    (Rattle.gw_turn.proofs.CoreCalls.owners_same (owner core.journal) (Rattle.gw_pool.specs.Owner.owners_after (owner core.journal) (lent.entry_of l.number asked d.outcome.reply)) l.number (state_at core) d.outcome.state core.taken core'.taken l.out l.out owners
     (rw same (move_idle (owner core.journal) l.number (state_at core) l.out core.taken core'.taken m.ties d.enters.taken)))
 
-pub idle_taken : {C : Type 0} (link : C → LinkView) (l : Lent) (core core' : CoreView) (asked : Call) (conn : C) → Meeting l core → CoreIdle link core core' l.number asked conn → lent.IdleTaken link l (known l core' l.out l.waits) asked conn
-idle_taken link l core core' asked conn m d = record {
+pub idle_taken : {C : Type 0} (link : C → LinkView) (l : Lent) (core core' : CoreView) (asked : Call) (conn : C) → Meeting l core → CoreIdle link core core' l.number asked conn → Entering l.number core core' l.out l.out → lent.IdleTaken link l (known l core' l.out l.waits) asked conn
+idle_taken link l core core' asked conn m d k = record {
   others = m.others;
   outcome = d.outcome;
-  calls = calls l core core' asked d.outcome l.out l.waits m d.enters;
+  calls = calls l core core' asked d.outcome l.out l.waits m d.enters k;
   close = d.close;
-  leaves = record { out = refl; waits = refl };
+  leaves = record { out = refl; waits = refl; audit_failed = refl };
 }
 
 pub idle_not : (l : Lent) (core core' : CoreView) (asked : Call) → Meeting l core → CoreNot core core' asked → lent.IdleNot l (known l core' l.out l.waits) asked
 idle_not l core core' asked m d = record {
   others = m.others;
-  looks = looks l core core' l.out l.waits m (ap (λ c. c.limits) d.same) (ap (λ c. c.journal) d.same);
+  looks = looks l core core' l.out l.waits m (leaving_same l core core' m d.same);
   unfit = rw (m.same_limits, m.since) d.unfit;
-  leaves = record { out = refl; waits = refl };
+  leaves = record { out = refl; waits = refl; audit_failed = refl };
 }
 
 -- whether a cancel made an entry
@@ -307,15 +308,15 @@ cancel_left link l core core' w now close m k less d = cancel_left_by link l cor
 cancel_made : {C : Type 0} (link : C → LinkView) (l : Lent) (core core' : CoreView) (t : Ticket) (now : ℕ) (put : Put C) (m : Meeting l core) → has_ticket t.want l.out ≡ true → DonePut link core core' (call.Cancel t.want now) put.close → lent.CancelMade link l (known l core' (change t.want without_ticket l.out) l.waits) m.others t now put
 cancel_made link l core core' t now put m k d = record {
   outcome = d.outcome;
-  calls = calls l core core' (call.Cancel t.want now) d.outcome (change t.want without_ticket l.out) l.waits m (cancel_enters link l core core' t.want now put.close m k d);
+  calls = calls l core core' (call.Cancel t.want now) d.outcome (change t.want without_ticket l.out) l.waits m (cancel_enters link l core core' t.want now put.close m k d) (enter_cancel link l core core' t.want now put.close m k d);
   close = d.closes;
 }
 
-cancel_by : {C : Type 0} (link : C → LinkView) (l : Lent) (core core' : CoreView) (t : Ticket) (now : ℕ) (put : Put C) (st : Standing) (m : Meeting l core) → has_ticket t.want l.out ≡ true → CancelDone link core core' t.want now put.close st → lent.CancelBy link l (known l core' (change t.want without_ticket l.out) l.waits) m.others t now put st
-cancel_by link l core core' t now put (Served row) m k d = cancel_made link l core core' t now put m k d
-cancel_by link l core core' t now put MayDial m k d = cancel_made link l core core' t now put m k d
-cancel_by link l core core' t now put NotServed m k d = cancel_made link l core core' t now put m k d
-cancel_by link l core core' t now put NotComing m k d = record { looks = looks l core core' (change t.want without_ticket l.out) l.waits m (ap (λ c. c.limits) d.0) (ap (λ c. c.journal) d.0); close = d.1 }
+cancel_by : {C : Type 0} (link : C → LinkView) (l : Lent) (core core' : CoreView) (t : Ticket) (now : ℕ) (put : Put C) (st : Standing) → standing (state_at core) t.want ≡ st → (m : Meeting l core) → has_ticket t.want l.out ≡ true → CancelDone link core core' t.want now put.close st → lent.CancelBy link l (known l core' (change t.want without_ticket l.out) l.waits) m.others t now put st
+cancel_by link l core core' t now put (Served row) e m k d = cancel_made link l core core' t now put m k d
+cancel_by link l core core' t now put MayDial e m k d = cancel_made link l core core' t now put m k d
+cancel_by link l core core' t now put NotServed e m k d = cancel_made link l core core' t now put m k d
+cancel_by link l core core' t now put NotComing e m k d = record { looks = looks l core core' (change t.want without_ticket l.out) l.waits m (leave_none l core core' t.want m k d.0 e); close = d.1 }
 
 met_state : (l : Lent) (core : CoreView) (m : Meeting l core) → state_at core ≡ after l.limits (l.seen ++ m.others)
 met_state l core m = rw (m.same_limits, m.since) refl
@@ -323,6 +324,6 @@ met_state l core m = rw (m.same_limits, m.since) refl
 pub cancels : {C : Type 0} (link : C → LinkView) (l : Lent) (core core' : CoreView) (t : Ticket) (now : ℕ) (put : Put C) → Meeting l core → has_ticket t.want l.out ≡ true → CancelDone link core core' t.want now put.close (standing (state_at core) t.want) → lent.CancelStep link l (known l core' (change t.want without_ticket l.out) l.waits) t now put
 cancels link l core core' t now put m k d = record {
   others = m.others;
-  does = subst (λ s. lent.CancelBy link l (known l core' (change t.want without_ticket l.out) l.waits) m.others t now put (standing s t.want)) (met_state l core m) (cancel_by link l core core' t now put (standing (state_at core) t.want) m k d);
-  leaves = record { out = refl; waits = refl };
+  does = subst (λ s. lent.CancelBy link l (known l core' (change t.want without_ticket l.out) l.waits) m.others t now put (standing s t.want)) (met_state l core m) (cancel_by link l core core' t now put (standing (state_at core) t.want) refl m k d);
+  leaves = record { out = refl; waits = refl; audit_failed = refl };
 }

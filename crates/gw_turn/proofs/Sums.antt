@@ -51,20 +51,20 @@ module _ {V : Type 0} where
   there_below (x ∷ xs) zero v at = omega arith
   there_below (x ∷ xs) (suc i) v at = let r = there_below xs i v at in omega arith
 
--- the two words
-pub words_turn : (words : List ℕ) (n : ℕ) → length words ≡ 2 → slice_index (set words 0 n) 0 ≡ n
+-- the first two words
+pub words_turn : (words : List ℕ) (n : ℕ) → 2 ≤ length words → slice_index (set words 0 n) 0 ≡ n
 words_turn [] n e = absurd (omega arith)
 words_turn (x ∷ xs) n e = refl
 
-pub words_count : (words : List ℕ) (n : ℕ) → length words ≡ 2 → slice_index (set words 0 n) 1 ≡ slice_index words 1
+pub words_count : (words : List ℕ) (n : ℕ) → 2 ≤ length words → slice_index (set words 0 n) 1 ≡ slice_index words 1
 words_count [] n e = absurd (omega arith)
 words_count (x ∷ xs) n e = refl
 
-pub count_turn : (words : List ℕ) (n : ℕ) → length words ≡ 2 → slice_index (set words 1 n) 0 ≡ slice_index words 0
+pub count_turn : (words : List ℕ) (n : ℕ) → 2 ≤ length words → slice_index (set words 1 n) 0 ≡ slice_index words 0
 count_turn [] n e = absurd (omega arith)
 count_turn (x ∷ xs) n e = refl
 
-pub count_count : (words : List ℕ) (n : ℕ) → length words ≡ 2 → slice_index (set words 1 n) 1 ≡ n
+pub count_count : (words : List ℕ) (n : ℕ) → 2 ≤ length words → slice_index (set words 1 n) 1 ≡ n
 count_count [] n e = absurd (omega arith)
 count_count (x ∷ []) n e = absurd (omega arith)
 count_count (x ∷ y ∷ ys) n e = refl

@@ -11,6 +11,7 @@ use Rattle.gw_pool.proofs.Ties.{one_same}
 use Rattle.gw_turn.specs.declared.view.Member.{Member}
 use Rattle.gw_turn.specs.declared.view.PassView.{PassView}
 use Rattle.gw_turn.specs.Turn.{members_of, counts, total}
+use Rattle.gw_pool.proofs.Mades.{mine_append}
 use Rattle.gw_turn.proofs.Sums.{total_two, total_at}
 
 -- a pass that stands in a list counts
@@ -48,14 +49,6 @@ other_view views id j v u m few ne at there live a same =
     omega (arith, l, two, own_counts v live, counts_among n m (members_of u) a same)
 
 -- entries of one caller in two parts
-mine_keep : (x : Entry) (c : ℕ) (xs ys : List Entry) (b : Bool) → mine (xs ++ ys) c ≡ mine xs c ++ mine ys c → cond b (x ∷ mine (xs ++ ys) c) (mine (xs ++ ys) c) ≡ cond b (x ∷ mine xs c) (mine xs c) ++ mine ys c
-mine_keep x c xs ys true h = ap (λ l. x ∷ l) h
-mine_keep x c xs ys false h = h
-
-pub mine_append : (xs ys : List Entry) (c : ℕ) → mine (xs ++ ys) c ≡ mine xs c ++ mine ys c
-mine_append [] ys c = refl
-mine_append (x ∷ xs) ys c = mine_keep x c xs ys (x.caller == c) (mine_append xs ys c)
-
 empty_end : (xs ys : List Entry) → xs ++ ys ≡ xs → ys ≡ []
 empty_end xs [] e = refl
 empty_end xs (y ∷ ys) e = let l : length (xs ++ y ∷ ys) ≡ length xs = ap length e in absurd (omega (arith, l, length-append xs (y ∷ ys)))

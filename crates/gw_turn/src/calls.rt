@@ -1,6 +1,6 @@
 //! The calls of a pass. Each takes the turn, and is one call of the pool's state; one that makes an entry counts it up.
 ghost use Rattle.std.specs.Prelude.{◌≡◌, ◌<◌, true, length};
-ghost use Rattle.gw_pool.specs.Lent.{WantStep, AskStep, StartStep, DialedStep, DialFailedStep, CancelStep, BackStep, DropStep, IdleStep, LeaseOf};
+ghost use Rattle.gw_pool.specs.Lent.{WantStep, AskStep, LooksAtRows, StartStep, DialedStep, DialFailedStep, CancelStep, BackStep, DropStep, IdleStep, LeaseOf};
 ghost use Rattle.gw_pool.specs.Tokens.{has_ticket, has_dial};
 ghost use Rattle.gw_pool.specs.declared.entry.Call.TheVariants as call;
 
@@ -17,7 +17,7 @@ impl<C: Link> Pool<C> {
         requires of { pass.old.pool ≡ self.now }
         requires host { host < pass.old.lent.limits.hosts }
         requires few { length pass.old.lent.out < pass.old.lent.limits.per_pass }
-        ensures pass { (pass.new.pool ≡ pass.old.pool) × (pass.new.joined ≡ pass.old.joined) }
+        ensures pass { (pass.new.pool ≡ pass.old.pool) × (pass.new.joined ≡ pass.old.joined) × (pass.new.past ≡ pass.old.past) }
         ensures step { WantStep C.link pass.old.lent pass.new.lent host now result }
     {
         let words = &self.table.shared;
@@ -43,8 +43,9 @@ impl<C: Link> Pool<C> {
     pub(crate) fn ask<R: Wait>(&self, rt: &R, pass: &mut Pass, t: Ticket) -> Ask<C>
         requires of { pass.old.pool ≡ self.now }
         requires token { has_ticket t.want pass.old.lent.out ≡ true }
-        ensures pass { (pass.new.pool ≡ pass.old.pool) × (pass.new.joined ≡ pass.old.joined) }
+        ensures pass { (pass.new.pool ≡ pass.old.pool) × (pass.new.joined ≡ pass.old.joined) × (pass.new.past ≡ pass.old.past) }
         ensures step { AskStep C.link pass.old.lent pass.new.lent t result }
+        ensures rows { LooksAtRows pass.new.lent t result }
     {
         let words = &self.table.shared;
         let mut turn = begin(rt, words, &mut pass.badge);
@@ -85,7 +86,7 @@ impl<C: Link> Pool<C> {
     pub(crate) fn start<R: Wait>(&self, rt: &R, pass: &mut Pass, t: &Ticket) -> Start
         requires of { pass.old.pool ≡ self.now }
         requires token { has_ticket t.now.want pass.old.lent.out ≡ true }
-        ensures pass { (pass.new.pool ≡ pass.old.pool) × (pass.new.joined ≡ pass.old.joined) }
+        ensures pass { (pass.new.pool ≡ pass.old.pool) × (pass.new.joined ≡ pass.old.joined) × (pass.new.past ≡ pass.old.past) }
         ensures step { StartStep pass.old.lent pass.new.lent t.now result }
     {
         let words = &self.table.shared;
@@ -114,7 +115,7 @@ impl<C: Link> Pool<C> {
     ) -> Put<C>
         requires of { pass.old.pool ≡ self.now }
         requires token { has_dial d.want pass.old.lent.out ≡ true }
-        ensures pass { (pass.new.pool ≡ pass.old.pool) × (pass.new.joined ≡ pass.old.joined) }
+        ensures pass { (pass.new.pool ≡ pass.old.pool) × (pass.new.joined ≡ pass.old.joined) × (pass.new.past ≡ pass.old.past) }
         ensures step { DialedStep C.link pass.old.lent pass.new.lent d (C.link conn).number now result }
     {
         let DialToken { want, host: _ } = d;
@@ -130,7 +131,7 @@ impl<C: Link> Pool<C> {
     pub(crate) fn dial_failed<R: Wait>(&self, rt: &R, pass: &mut Pass, d: DialToken)
         requires of { pass.old.pool ≡ self.now }
         requires token { has_dial d.want pass.old.lent.out ≡ true }
-        ensures pass { (pass.new.pool ≡ pass.old.pool) × (pass.new.joined ≡ pass.old.joined) }
+        ensures pass { (pass.new.pool ≡ pass.old.pool) × (pass.new.joined ≡ pass.old.joined) × (pass.new.past ≡ pass.old.past) }
         ensures step { DialFailedStep pass.old.lent pass.new.lent d }
     {
         let DialToken { want, host: _ } = d;
@@ -145,7 +146,7 @@ impl<C: Link> Pool<C> {
     pub(crate) fn cancel<R: Wait>(&self, rt: &R, pass: &mut Pass, t: Ticket, now: u64) -> Put<C>
         requires of { pass.old.pool ≡ self.now }
         requires token { has_ticket t.want pass.old.lent.out ≡ true }
-        ensures pass { (pass.new.pool ≡ pass.old.pool) × (pass.new.joined ≡ pass.old.joined) }
+        ensures pass { (pass.new.pool ≡ pass.old.pool) × (pass.new.joined ≡ pass.old.joined) × (pass.new.past ≡ pass.old.past) }
         ensures step { CancelStep C.link pass.old.lent pass.new.lent t now result }
     {
         let Ticket { want, host: _ } = t;
@@ -172,7 +173,7 @@ impl<C: Link> Pool<C> {
     ) -> Put<C>
         requires of { pass.old.pool ≡ self.now }
         requires lease { LeaseOf C.link pass.old.lent l }
-        ensures pass { (pass.new.pool ≡ pass.old.pool) × (pass.new.joined ≡ pass.old.joined) }
+        ensures pass { (pass.new.pool ≡ pass.old.pool) × (pass.new.joined ≡ pass.old.joined) × (pass.new.past ≡ pass.old.past) }
         ensures step { BackStep C.link pass.old.lent pass.new.lent l.no l.want now result }
     {
         let Lease {
@@ -196,7 +197,7 @@ impl<C: Link> Pool<C> {
         requires of { pass.old.pool ≡ self.now }
         requires lease { LeaseOf C.link pass.old.lent l }
         ensures conn { result ≡ l.conn }
-        ensures pass { (pass.new.pool ≡ pass.old.pool) × (pass.new.joined ≡ pass.old.joined) }
+        ensures pass { (pass.new.pool ≡ pass.old.pool) × (pass.new.joined ≡ pass.old.joined) × (pass.new.past ≡ pass.old.past) }
         ensures step { DropStep pass.old.lent pass.new.lent l.no l.want }
     {
         let Lease {
@@ -218,7 +219,7 @@ impl<C: Link> Pool<C> {
     /// Takes the least recently idle connection out, where it is expired.
     pub(crate) fn expire<R: Wait>(&self, rt: &R, pass: &mut Pass, now: u64) -> Option<C>
         requires of { pass.old.pool ≡ self.now }
-        ensures pass { (pass.new.pool ≡ pass.old.pool) × (pass.new.joined ≡ pass.old.joined) }
+        ensures pass { (pass.new.pool ≡ pass.old.pool) × (pass.new.joined ≡ pass.old.joined) × (pass.new.past ≡ pass.old.past) }
         ensures step { IdleStep C.link pass.old.lent pass.new.lent (call.Expire now) result }
     {
         let words = &self.table.shared;
@@ -238,7 +239,7 @@ impl<C: Link> Pool<C> {
     /// Takes the least recently idle connection out.
     pub(crate) fn close_idle<R: Wait>(&self, rt: &R, pass: &mut Pass) -> Option<C>
         requires of { pass.old.pool ≡ self.now }
-        ensures pass { (pass.new.pool ≡ pass.old.pool) × (pass.new.joined ≡ pass.old.joined) }
+        ensures pass { (pass.new.pool ≡ pass.old.pool) × (pass.new.joined ≡ pass.old.joined) × (pass.new.past ≡ pass.old.past) }
         ensures step { IdleStep C.link pass.old.lent pass.new.lent call.CloseIdle result }
     {
         let words = &self.table.shared;

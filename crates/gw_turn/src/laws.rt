@@ -1,23 +1,9 @@
 //! Laws of every pool. Each is a function with an empty body, whose `ensures` is the law.
-ghost use Rattle.std.specs.Prelude.{◌≡◌, ℕ, slice_index, length, true};
-ghost use mathlib.Core.Option.{some};
-ghost use lib.ListN.{get_elem?};
-ghost use Rattle.gw_pool.specs.declared.limits.Limits.{Limits};
-ghost use Rattle.gw_turn.specs.Laws.{LeasesStay, UnitsAreNamed, EntriesAreOwn};
+ghost use Rattle.gw_turn.specs.Laws.{HistoryIsOne};
 
-/// A connection that is out to a caller stays so in every legal history that goes on with no entry of that caller. So a
-/// lease that a pass holds can always be given back or dropped.
-pub fn leases_stay()
-    ensures { LeasesStay }
-{}
-
-/// Between any two steps there is one legal history, whose length is the count word, of which each pass has seen a
-/// beginning, and whose entries of each pass's number are the pass's own.
-pub fn entries_are_own()
-    ensures { EntriesAreOwn }
-{}
-
-/// Between any two steps each unit of a pass is a want that its tokens name.
-pub fn units_are_named()
-    ensures { UnitsAreNamed }
+/// Between any two steps there is one legal history of the pool's callers, whose length is the count word, and which one
+/// pass has seen whole. Each pass has seen a beginning of it, its own entries are those of its number in it, and each of
+/// its units at the end is a want that its tokens name.
+pub fn history_is_one()
+    ensures { HistoryIsOne }
 {}

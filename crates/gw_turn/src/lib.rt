@@ -18,7 +18,7 @@ mod view;
 
 pub use desk::Desk;
 pub use gw_pool::Closed;
-pub use laws::{entries_are_own, leases_stay, units_are_named};
+pub use laws::history_is_one;
 pub use pass::Pass;
 pub use pool::Pool;
 pub use view::{Member, PassView};

@@ -12,7 +12,7 @@ use std::alloc::{AllocError, Global};
 use std::marker::Model;
 
 /// One worker's pass of a pool: what it needs to call it, and what it knows of it. Contracts see whose pass it is, what
-/// it knows (`Lent`), and what the passes knew that were joined into it.
+/// it knows (`Lent`), what the passes knew that were joined into it, and what had been seen when they were.
 #[derive(Drop)]
 pub struct Pass {
     pub(crate) badge: Badge<PassView>,

@@ -4,7 +4,7 @@ ghost use Rattle.gw_pool.specs.History.{IsLegal, AreBelow, mine};
 ghost use Rattle.gw_pool.specs.Idle.{idle_links};
 ghost use Rattle.gw_turn.specs.Pass.{fresh_passes, with_pass};
 ghost use Rattle.gw_turn.specs.Steps.{IsAt, IsIn};
-ghost use Rattle.gw_turn.specs.Turn.{first_view};
+ghost use Rattle.gw_turn.specs.Turn.{Begins, first_view};
 
 use crate::pass::Pass;
 use crate::steps;
@@ -26,7 +26,7 @@ pub struct Pool<C: Link> {
 }
 
 impl<C: Link> Model for Pool<C> {
-    ghost use Rattle.std.specs.Prelude.{◌≡◌};
+    ghost use Rattle.std.specs.Prelude.{◌≤◌};
     ghost use Rattle.atomic_table.specs.Seated.{TableId, table_id_coded};
 
     ghost Value = { TableId };
@@ -35,7 +35,7 @@ impl<C: Link> Model for Pool<C> {
 
     ghost view = { λ p. p.table.shared.table_id };
 
-    ghost invariant = { λ p. (p.table.shared.table_id.words ≡ 2) × (p.table.shared.table_id.slots ≡ 1) };
+    ghost invariant = { λ p. (2 ≤ p.table.shared.table_id.words) × (1 ≤ p.table.shared.table_id.slots) };
 }
 
 impl<C: Link> Pool<C> {
@@ -86,6 +86,7 @@ impl<C: Link> Pool<C> {
         ensures callers { IfOk result (λ c. AreBelow last.lent.limits.passes c.journal.items) }
         ensures own { IfOk result (λ c. mine c.journal.items last.lent.number ≡ last.lent.mine) }
         ensures joined { IfOk result (λ c. All (IsIn c.journal.items) last.joined) }
+        ensures past { IfOk result (λ c. All (Begins c.journal.items) last.past) }
         ensures idle { IfOk result (λ c. map (λ conn. (C.link conn).number) c.idle.items ≡ idle_links last.lent.limits last.lent.seen) }
         ensures back { IfErr result (λ b. (b.0 ≡ self) × (b.1 ≡ last)) }
     {

@@ -1,5 +1,5 @@
 //! The turn of one pass, from its taking to its release.
-ghost use Rattle.std.specs.Prelude.{◌≡◌, true, false, [], ◌∷◌, None};
+ghost use Rattle.std.specs.Prelude.{◌≡◌, ◌≤◌, true, false, [], ◌∷◌, None};
 ghost use Rattle.atomic_table.specs.Seated.{TableId};
 ghost use Rattle.gw_turn.specs.Meeting.{Meeting, Entering, Leaving};
 ghost use Rattle.gw_turn.specs.Steps.{IsAt, IsSame, Met, took, core_of, lent_of, released};
@@ -43,7 +43,7 @@ pub(crate) fn begin<R: Wait, C: Link>(
     words: &Words<C>,
     badge: &mut Badge<PassView>,
 ) -> Turn<C>
-    requires table { (words.now.table_id.words ≡ 2) × (words.now.table_id.slots ≡ 1) }
+    requires table { (2 ≤ words.now.table_id.words) × (1 ≤ words.now.table_id.slots) }
     requires seat { badge.old.table_id ≡ words.now.table_id }
     requires view { (v : PassView) × (badge.old.views ≡ v ∷ []) × (v.live ≡ true) × (v.turn ≡ false) }
     ensures seat { result.place.table_id ≡ words.now.table_id }

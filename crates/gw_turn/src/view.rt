@@ -25,6 +25,10 @@ pub struct PassView {
     pub own: Member,
     /// What those that were joined into it knew of themselves.
     pub joined: LinkedList<Member>,
+    /// The histories that it and those joined into it had seen when others were joined into them.
+    pub past: LinkedList<LinkedList<Entry>>,
+    /// The wants that it made since another was last joined into it.
+    pub fresh: LinkedList<u64>,
     /// How often its `ask` answered `NotYet`.
     pub waits: u64,
     /// Whether it has the turn.

@@ -63,4 +63,4 @@ pub returns-in-Failed-clause-step : goal.returns-in-Failed-clause-step
 returns-in-Failed-clause-step g c =
     let b = begun c.pass.inside.badge.table_id c.pass.inside.badge.views c.args.pass.now c.begin-turn.result.place.me c.begin-turn.result.core c.pass.inside.out c.pass.inside.waits c.pass.inside.number c.pass.view_is c.pass.invariant c.begin-turn.ensures.view in
     subst (λ x. lent.AskFailed c.args.pass.now.lent x c.args.t) (becomes c.args.pass.now c.begin-turn.result.place.me.0 c.begin-turn.result.core c.ask.new.self c.pass.inside.out.out c.spend_ticket.new.self.out (change c.args.t.want without_ticket c.args.pass.now.lent.out) c.pass.inside.waits c.pass.inside.waits (c.args.pass.now.lent.waits) c.pass.inside.number c.leave-in-Failed.result.table_id c.leave-in-Failed.result.views b c.leave-in-Failed.ensures.view (c.spend_ticket.ensures.out ∙ ap (λ o. change c.args.t.want without_ticket o) b.same_out) (b.same_waits))
-    (ask_failed c.args.pass.now.lent c.begin-turn.result.core c.ask.new.self c.args.t b.meeting c.in-Failed.ensures.0 c.in-Failed.ensures.1)
+    (ask_failed c.args.pass.now.lent c.begin-turn.result.core c.ask.new.self c.args.t b.meeting c.requires.token c.in-Failed.ensures.0 c.in-Failed.ensures.1)

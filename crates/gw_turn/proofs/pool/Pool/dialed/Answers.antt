@@ -5,7 +5,7 @@ use Rattle.gw_pool.specs.Tokens.{change, without_dial}
 use Rattle.gw_turn.specs.Meeting.{Entering}
 use Rattle.gw_turn.proofs.Beginning.{begun, enters, becomes}
 use Rattle.gw_pool.specs.Core.{state_at}
-use Rattle.gw_turn.specs.Owner.{owner}
+use Rattle.gw_pool.specs.Owner.{owner}
 use Rattle.gw_turn.proofs.Callers.{has_dial_row}
 use Rattle.gw_turn.proofs.RowCalls.{enter_dialed, dialed}
 use Rattle.gw_turn.proofs.pool.Pool.dialed.Goals as goal

@@ -33,8 +33,10 @@ leave-requires-clause-leave g c =
 pub returns-in-Some-clause-step : goal.returns-in-Some-clause-step
 returns-in-Some-clause-step g c =
     let b = begun c.pass.inside.badge.table_id c.pass.inside.badge.views c.args.pass.now c.begin-turn.result.place.me c.begin-turn.result.core c.pass.inside.out c.pass.inside.waits c.pass.inside.number c.pass.view_is c.pass.invariant c.begin-turn.ensures.view in
+    let d = (subst (λ n. core.IdleTaken g.C.Link.link c.begin-turn.result.core c.expire.new.self n (call.Expire c.args.now) c.in-Some.conn) b.same_number c.in-Some.ensures) in
     subst (λ x. lent.IdleTaken g.C.Link.link c.args.pass.now.lent x (call.Expire c.args.now) c.in-Some.conn) (becomes c.args.pass.now c.begin-turn.result.place.me.0 c.begin-turn.result.core c.expire.new.self c.pass.inside.out.out c.pass.inside.out.out (c.args.pass.now.lent.out) c.pass.inside.waits c.pass.inside.waits (c.args.pass.now.lent.waits) c.pass.inside.number c.enter.result.table_id c.enter.result.views b c.enter.ensures.view (b.same_out) (b.same_waits))
-    (idle_taken g.C.Link.link c.args.pass.now.lent c.begin-turn.result.core c.expire.new.self (call.Expire c.args.now) c.in-Some.conn b.meeting (subst (λ n. core.IdleTaken g.C.Link.link c.begin-turn.result.core c.expire.new.self n (call.Expire c.args.now) c.in-Some.conn) b.same_number c.in-Some.ensures))
+    (idle_taken g.C.Link.link c.args.pass.now.lent c.begin-turn.result.core c.expire.new.self (call.Expire c.args.now) c.in-Some.conn b.meeting d
+    (enter_idle g.C.Link.link c.args.pass.now.lent c.begin-turn.result.core c.expire.new.self (call.Expire c.args.now) c.in-Some.conn b.meeting d (expire_was c.begin-turn.result.core.limits (core.state_at c.begin-turn.result.core) c.args.pass.now.lent.number c.args.now _ d.enters.fits) refl))
 
 pub returns-in-None-clause-step : goal.returns-in-None-clause-step
 returns-in-None-clause-step g c =
