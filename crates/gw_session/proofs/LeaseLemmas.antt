@@ -11,6 +11,7 @@ use Rattle.gw_wire.specs.Link.{LinkView}
 use Rattle.gw_wire.specs.Stretch.{Told, Then, Acts}
 use Rattle.gw_wire.specs.Wire.{WireView, CloseStep, NowStep}
 use Rattle.gw_wire.proofs.Facts.{Logs-none, Told-map, Told-acts, Told-then, Told-before_quiet, later_same, later_then, rises_from, rises_then, rises_to}
+use Rattle.gw_pool.proofs.Facts.{gone_then}
 use Rattle.gw_pool.specs.declared.entry.Call.TheVariants as call
 use Rattle.gw_pool.specs.declared.entry.Entry.{Entry}
 use Rattle.gw_pool.specs.declared.entry.Reply.{Reply}
@@ -31,7 +32,7 @@ use Rattle.gw_session.specs.Leased.{AreExpired, LeftStep, Clears, ClearStep, Wan
 use Rattle.gw_wire.specs.Moments.{Rises}
 use Rattle.gw_pool.specs.Moments.{call_moments, entry_moments}
 use Rattle.gw_session.specs.Resting.{IsRested, IsGranted, IsServed, IsSpent, Grows, WantsBy, expired_entry, made_dialed, made_failed}
-use Rattle.gw_session.proofs.PoolLemmas.{was_cleared, was_overdue, was_wanted, was_full, may_dial, taken_granted, waiting_granted, failed_granted, went, was_kept, has_ended, was_taken, granted_served, waiting_served, failed_served, was_spent, taken_spent, granted_spent, waiting_spent, gone_then, grows_then, grows_quiet, Kept}
+use Rattle.gw_session.proofs.PoolLemmas.{was_cleared, was_overdue, was_wanted, was_full, may_dial, taken_granted, waiting_granted, failed_granted, went, was_kept, has_ended, was_taken, granted_served, waiting_served, failed_served, was_spent, taken_spent, granted_spent, waiting_spent, grows_then, grows_quiet, Kept}
 
 pub grown_none : (a : Lent) → Grows a a []
 grown_none a = record { limits = refl; seen = sym (append-nil a.seen); mine = sym (append-nil a.mine) }
@@ -88,7 +89,7 @@ pub clears_then : (old mid new : WireView) (a b c : Lent) (x y : List Entry) →
 clears_then old mid new a b c x y p q =
     let first = gone_links a.limits a.seen 0 x in
     let both : first ++ gone_links b.limits b.seen 0 y ≡ gone_links a.limits a.seen 0 (x ++ y) =
-    ap (λ l. first ++ l) (gone_behind a b x y p.grows) ∙ sym (gone_then a.limits a.seen x y) in
+    ap (λ l. first ++ l) (gone_behind a b x y p.grows) ∙ sym (gone_then a.limits a.seen 0 x y) in
     let P : List ℕ → Type 0 = λ l. Told old.log new.log (Acts (closes l)) in
     record {
       later = later_then old mid new p.later q.later;

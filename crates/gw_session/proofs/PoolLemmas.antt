@@ -32,14 +32,6 @@ use Rattle.gw_session.specs.Resting.{resting, granted, dialing, lending, Stands,
 use Rattle.gw_session.proofs.PoolSteps.{Rests, WantOutcome, AsGranted, AsExpired, AsGiven, conn_row, want_outcome, start_step_is, dialed_step_is, failed_step_is, drop_outcome, back_outcome, expire_outcome, granted_stands, resting_stands, lending_stands}
 
 -- growth
-pub gone_then : (limits : Limits) (history x y : List Entry) → gone_links limits history 0 (x ++ y) ≡ gone_links limits history 0 x ++ gone_links limits (history ++ x) 0 y
-gone_then limits history [] y = ap (λ h. gone_links limits h 0 y) (sym (append-nil history))
-gone_then limits history (e ∷ x) y =
-    let here = cond (e.caller == 0) (left_by (step limits (after limits history) e.caller e.call)) [] in
-    ap (λ l. here ++ l) (gone_then limits (history ++ e ∷ []) x y)
-    ∙ ap (λ h. here ++ (gone_links limits (history ++ e ∷ []) 0 x ++ gone_links limits h 0 y)) (append_assoc history (e ∷ []) x)
-    ∙ sym (append_assoc here (gone_links limits (history ++ e ∷ []) 0 x) (gone_links limits (history ++ e ∷ x) 0 y))
-
 pub grows_then : (a b c : Lent) (x y : List Entry) → Grows a b x → Grows b c y → Grows a c (x ++ y)
 grows_then a b c x y p q = record {
   limits = q.limits ∙ p.limits;
