@@ -1,5 +1,5 @@
 -- A call of a pass, from the turn that it began to what it knows after.
-use Rattle.std.proofs.Common.{◌≡◌, ◌∙◌, ℕ, ◌<◌, sym, ap, subst, arith, List, [], ◌∷◌, None, length}
+use Rattle.std.proofs.Common.{◌≡◌, ◌∙◌, ℕ, ◌<◌, sym, ap, subst, arith, List, [], ◌∷◌, Option, length}
 use Rattle.atomic_table.specs.Seated.{TableId}
 use Rattle.gw_pool.specs.declared.holding.Holding.{Holding}
 use Rattle.gw_pool.specs.Core.{CoreView, state_at}
@@ -9,7 +9,7 @@ use Rattle.gw_turn.specs.declared.view.PassView.{PassView}
 use Rattle.gw_pool.specs.Owner.{owner}
 use Rattle.gw_turn.specs.Meeting.{Meeting, Entering, Leaving, known}
 use Rattle.gw_turn.specs.Pass.{PassState, state_of, IsPass}
-use Rattle.gw_turn.specs.Steps.{PassMe, lent_of, core_of, took, released}
+use Rattle.gw_turn.specs.Steps.{lent_of, core_of, took, released, slot_core}
 use Rattle.gw_turn.proofs.Callers.{few_units}
 use Rattle.gw_turn.proofs.CoreCalls.{owned}
 use Rattle.gw_turn.proofs.Leaving.{took_core, view_same}
@@ -23,16 +23,16 @@ pub record Begun (p : PassState) (w : PassView) (core : CoreView) (out : List Ho
   pub same_out : out ≡ p.lent.out
   pub same_waits : waits ≡ p.lent.waits
 
-pub begun : (table : TableId) (views : List PassView) (p : PassState) (place : PassMe) (core : CoreView) (out : TokensView) (waits number : ℕ) → state_of table views ≡ p → IsPass views out waits number → ((v : PassView) × (views ≡ v ∷ []) × (place ≡ (took core v, (0, None) ∷ [])) × Meeting (lent_of v) core)
-    → Begun p place.0 core out.out waits number
-begun table views p place core out waits number is pass (v, at, me, meeting) =
+pub begun : (table : TableId) (views : List PassView) (p : PassState) (w : PassView) (slot : List (ℕ × Option CoreView)) (core : CoreView) (out : TokensView) (waits number : ℕ) → state_of table views ≡ p → IsPass views out waits number → slot_core slot ≡ core
+    → ((v : PassView) × (views ≡ v ∷ []) × (w ≡ took (slot_core slot) v) × Meeting (lent_of v) (slot_core slot)) → Begun p w core out.out waits number
+begun table views p w slot core out waits number is pass at_core (v, at, turn, meeting) =
     let same : pass.view ≡ v = view_same pass.view v views pass.is_view at in
     let lent_is : p.lent ≡ lent_of v = ap (λ (x : PassState). x.lent) (sym is ∙ ap (λ vs. state_of table vs) at) in
     record {
       view = v;
       lent_is = lent_is;
-      turn = ap (λ m. m.0) me;
-      meeting = subst (λ l. Meeting l core) (sym lent_is) meeting;
+      turn = turn ∙ ap (λ k. took k v) at_core;
+      meeting = subst (λ l. Meeting l core) (sym lent_is) (subst (Meeting (lent_of v)) at_core meeting);
       same_number = sym pass.same_number ∙ ap (λ (x : PassView). x.own.number) same ∙ ap (λ l. l.number) (sym lent_is);
       same_out = sym pass.same_out ∙ ap (λ (x : PassView). x.own.out) same ∙ ap (λ l. l.out) (sym lent_is);
       same_waits = sym pass.same_waits ∙ ap (λ (x : PassView). x.waits) same ∙ ap (λ l. l.waits) (sym lent_is);

@@ -2,6 +2,7 @@
 use Rattle.std.proofs.Common.{◌≡◌, ◌∙◌, ℕ, refl, sym, ap, List, [], ◌∷◌, ◌++◌, length, drop, Option, Some, append-nil}
 use Rattle.std.proofs.Math.Seq.{drop-length}
 use Rattle.atomic_table.specs.Seated.{TableId}
+use Rattle.atomic_table.specs.Table.{rest}
 use Rattle.gw_pool.specs.History.{mine}
 use Rattle.gw_pool.specs.Owner.{made_in}
 use Rattle.gw_turn.specs.Pass.{state_of}
@@ -27,6 +28,13 @@ leave_same v w core core' out e m same o = leave_took v w core core' out e m (rw
 
 pub slot_same : (a b : CoreView) (xs slots : List (ℕ × Option CoreView)) → slots ≡ (0, Some a) ∷ [] → slots ≡ (0, Some b) ∷ xs → a ≡ b
 slot_same a b xs slots e f = sym (ap slot_core e) ∙ ap slot_core f
+
+-- the pool's state in the slot of a seat that has the turn
+pub slot_out : (m : List (ℕ × Option CoreView)) → m ≡ (0, Some (slot_core m)) ∷ [] → (x : Option CoreView) × (m ≡ (0, x) ∷ rest m)
+slot_out m e = (Some (slot_core m), e ∙ ap (λ l. (0, Some (slot_core m)) ∷ rest l) (sym e))
+
+pub slot_is : (m : List (ℕ × Option CoreView)) (x : Option CoreView) (core : CoreView) → m ≡ (0, x) ∷ rest m → x ≡ Some core → slot_core m ≡ core
+slot_is m x core e f = ap slot_core (e ∙ ap (λ y. (0, y) ∷ rest m) f)
 
 pub view_same : (v w : PassView) (views : List PassView) → views ≡ v ∷ [] → views ≡ w ∷ [] → v ≡ w
 view_same v w views e f = let both = sym e ∙ f in cc

@@ -6,7 +6,8 @@ ghost use Rattle.gw_pool.specs.declared.entry.Call.TheVariants as call;
 
 use crate::pass::Pass;
 use crate::pool::Pool;
-use crate::turn::{begin, enter, leave};
+use crate::steps::STATE;
+use crate::turn::{begin, enter, entries, leave};
 use gw_pool::{Ask, CoreAsk, CoreWant, DialToken, Lease, Put, Start, Ticket, Want};
 use gw_wire::Link;
 use std::sync::Wait;
@@ -21,19 +22,23 @@ impl<C: Link> Pool<C> {
         ensures step { WantStep C.link pass.old.lent pass.new.lent host now result }
     {
         let words = &self.table.shared;
-        let mut turn = begin(rt, words, &mut pass.badge);
-        match turn.core.want(pass.number, host, now) {
+        let mut place = begin(rt, words, &mut pass.badge);
+        let made = match place.slot_mut(words, STATE) {
+            Some(core) => core.want(pass.number, host, now),
+            None => unreachable!(),
+        };
+        match made {
             CoreWant::Made(want) => {
                 pass.out.hand_out(want);
-                pass.badge = enter(words, turn, &pass.out, pass.waits);
+                pass.badge = enter(words, place, &pass.out, pass.waits);
                 Want::Ticket(Ticket { want, host })
             }
             CoreWant::Expired(conn) => {
-                pass.badge = enter(words, turn, &pass.out, pass.waits);
+                pass.badge = enter(words, place, &pass.out, pass.waits);
                 Want::Expired(conn)
             }
             CoreWant::JournalFull => {
-                pass.badge = leave(words, turn, &pass.out, pass.waits);
+                pass.badge = leave(words, place, &pass.out, pass.waits);
                 Want::JournalFull
             }
         }
@@ -48,12 +53,16 @@ impl<C: Link> Pool<C> {
         ensures rows { LooksAtRows pass.new.lent t result }
     {
         let words = &self.table.shared;
-        let mut turn = begin(rt, words, &mut pass.badge);
-        match turn.core.ask(t.want) {
+        let mut place = begin(rt, words, &mut pass.badge);
+        let asked = match place.slot_mut(words, STATE) {
+            Some(core) => core.ask(t.want),
+            None => unreachable!(),
+        };
+        match asked {
             CoreAsk::Taken(conn, no, reused, host) => {
                 let Ticket { want, host: _ } = t;
                 pass.out.lease(want);
-                pass.badge = leave(words, turn, &pass.out, pass.waits);
+                pass.badge = leave(words, place, &pass.out, pass.waits);
                 let link = conn.number();
                 Ask::Taken(Lease {
                     conn,
@@ -65,18 +74,18 @@ impl<C: Link> Pool<C> {
                 })
             }
             CoreAsk::Granted => {
-                pass.badge = leave(words, turn, &pass.out, pass.waits);
+                pass.badge = leave(words, place, &pass.out, pass.waits);
                 Ask::Granted(t)
             }
             CoreAsk::NotYet => {
                 pass.waits = pass.waits.saturating_add(1);
-                pass.badge = leave(words, turn, &pass.out, pass.waits);
+                pass.badge = leave(words, place, &pass.out, pass.waits);
                 Ask::NotYet(t)
             }
             CoreAsk::Failed => {
                 let Ticket { want, host: _ } = t;
                 pass.out.spend_ticket(want);
-                pass.badge = leave(words, turn, &pass.out, pass.waits);
+                pass.badge = leave(words, place, &pass.out, pass.waits);
                 Ask::Failed
             }
         }
@@ -90,16 +99,20 @@ impl<C: Link> Pool<C> {
         ensures step { StartStep pass.old.lent pass.new.lent t.now result }
     {
         let words = &self.table.shared;
-        let mut turn = begin(rt, words, &mut pass.badge);
-        if turn.core.start(t.want) {
+        let mut place = begin(rt, words, &mut pass.badge);
+        let begun = match place.slot_mut(words, STATE) {
+            Some(core) => core.start(t.want),
+            None => unreachable!(),
+        };
+        if begun {
             pass.out.hand_out_dial(t.want);
-            pass.badge = enter(words, turn, &pass.out, pass.waits);
+            pass.badge = enter(words, place, &pass.out, pass.waits);
             Start::Go(DialToken {
                 want: t.want,
                 host: t.host,
             })
         } else {
-            pass.badge = leave(words, turn, &pass.out, pass.waits);
+            pass.badge = leave(words, place, &pass.out, pass.waits);
             Start::NotGranted
         }
     }
@@ -120,10 +133,13 @@ impl<C: Link> Pool<C> {
     {
         let DialToken { want, host: _ } = d;
         let words = &self.table.shared;
-        let mut turn = begin(rt, words, &mut pass.badge);
-        let put = turn.core.dialed(want, conn, now);
+        let mut place = begin(rt, words, &mut pass.badge);
+        let put = match place.slot_mut(words, STATE) {
+            Some(core) => core.dialed(want, conn, now),
+            None => unreachable!(),
+        };
         pass.out.spend_dial(want);
-        pass.badge = enter(words, turn, &pass.out, pass.waits);
+        pass.badge = enter(words, place, &pass.out, pass.waits);
         put
     }
 
@@ -136,10 +152,13 @@ impl<C: Link> Pool<C> {
     {
         let DialToken { want, host: _ } = d;
         let words = &self.table.shared;
-        let mut turn = begin(rt, words, &mut pass.badge);
-        turn.core.dial_failed(want);
+        let mut place = begin(rt, words, &mut pass.badge);
+        match place.slot_mut(words, STATE) {
+            Some(core) => core.dial_failed(want),
+            None => unreachable!(),
+        }
         pass.out.spend_dial(want);
-        pass.badge = enter(words, turn, &pass.out, pass.waits);
+        pass.badge = enter(words, place, &pass.out, pass.waits);
     }
 
     /// Gives a want up.
@@ -151,14 +170,17 @@ impl<C: Link> Pool<C> {
     {
         let Ticket { want, host: _ } = t;
         let words = &self.table.shared;
-        let mut turn = begin(rt, words, &mut pass.badge);
-        let before = turn.core.journal().len();
-        let put = turn.core.cancel(want, now);
+        let mut place = begin(rt, words, &mut pass.badge);
+        let before = entries(words, &mut place);
+        let put = match place.slot_mut(words, STATE) {
+            Some(core) => core.cancel(want, now),
+            None => unreachable!(),
+        };
         pass.out.spend_ticket(want);
-        if turn.core.journal().len() > before {
-            pass.badge = enter(words, turn, &pass.out, pass.waits);
+        if entries(words, &mut place) > before {
+            pass.badge = enter(words, place, &pass.out, pass.waits);
         } else {
-            pass.badge = leave(words, turn, &pass.out, pass.waits);
+            pass.badge = leave(words, place, &pass.out, pass.waits);
         }
         put
     }
@@ -185,10 +207,13 @@ impl<C: Link> Pool<C> {
             reused: _,
         } = l;
         let words = &self.table.shared;
-        let mut turn = begin(rt, words, &mut pass.badge);
-        let put = turn.core.give_back(no, conn, now);
+        let mut place = begin(rt, words, &mut pass.badge);
+        let put = match place.slot_mut(words, STATE) {
+            Some(core) => core.give_back(no, conn, now),
+            None => unreachable!(),
+        };
         pass.out.spend_lease(want);
-        pass.badge = enter(words, turn, &pass.out, pass.waits);
+        pass.badge = enter(words, place, &pass.out, pass.waits);
         put
     }
 
@@ -209,10 +234,13 @@ impl<C: Link> Pool<C> {
             reused: _,
         } = l;
         let words = &self.table.shared;
-        let mut turn = begin(rt, words, &mut pass.badge);
-        turn.core.drop_conn(no);
+        let mut place = begin(rt, words, &mut pass.badge);
+        match place.slot_mut(words, STATE) {
+            Some(core) => core.drop_conn(no),
+            None => unreachable!(),
+        }
         pass.out.spend_lease(want);
-        pass.badge = enter(words, turn, &pass.out, pass.waits);
+        pass.badge = enter(words, place, &pass.out, pass.waits);
         conn
     }
 
@@ -223,14 +251,18 @@ impl<C: Link> Pool<C> {
         ensures step { IdleStep C.link pass.old.lent pass.new.lent (call.Expire now) result }
     {
         let words = &self.table.shared;
-        let mut turn = begin(rt, words, &mut pass.badge);
-        match turn.core.expire(pass.number, now) {
+        let mut place = begin(rt, words, &mut pass.badge);
+        let taken = match place.slot_mut(words, STATE) {
+            Some(core) => core.expire(pass.number, now),
+            None => unreachable!(),
+        };
+        match taken {
             Some(conn) => {
-                pass.badge = enter(words, turn, &pass.out, pass.waits);
+                pass.badge = enter(words, place, &pass.out, pass.waits);
                 Some(conn)
             }
             None => {
-                pass.badge = leave(words, turn, &pass.out, pass.waits);
+                pass.badge = leave(words, place, &pass.out, pass.waits);
                 None
             }
         }
@@ -243,14 +275,18 @@ impl<C: Link> Pool<C> {
         ensures step { IdleStep C.link pass.old.lent pass.new.lent call.CloseIdle result }
     {
         let words = &self.table.shared;
-        let mut turn = begin(rt, words, &mut pass.badge);
-        match turn.core.close_idle(pass.number) {
+        let mut place = begin(rt, words, &mut pass.badge);
+        let taken = match place.slot_mut(words, STATE) {
+            Some(core) => core.close_idle(pass.number),
+            None => unreachable!(),
+        };
+        match taken {
             Some(conn) => {
-                pass.badge = enter(words, turn, &pass.out, pass.waits);
+                pass.badge = enter(words, place, &pass.out, pass.waits);
                 Some(conn)
             }
             None => {
-                pass.badge = leave(words, turn, &pass.out, pass.waits);
+                pass.badge = leave(words, place, &pass.out, pass.waits);
                 None
             }
         }

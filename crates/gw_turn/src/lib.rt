@@ -1,7 +1,7 @@
 //! One pool of connections for several workers. Its state lies in a slot of a table with two words, the turn and the count
-//! of entries. A call takes the turn by a compare-exchange, moves the state out, makes its one call of it, counts the entry
-//! up by one swap where it made one, puts the state home and releases the turn. So the journal is one legal history that
-//! holds exactly each worker's own calls, each once and in its order, however the calls of the workers interleave.
+//! of entries. A call takes the turn by a compare-exchange, makes its one call of the state in its slot, counts the entry up
+//! by one swap where it made one, and releases the turn. So the journal is one legal history that holds exactly each
+//! worker's own calls, each once and in its order, however the calls of the workers interleave.
 //!
 //! A call that needn't wait makes three atomic steps, or two where it makes no entry, and no system call; it takes no
 //! memory. Only waiting for the turn uses a `Wait`: it lets other threads run between two tries.

@@ -9,7 +9,7 @@ ghost use Rattle.gw_turn.specs.Turn.{Begins, first_view};
 use crate::pass::Pass;
 use crate::steps;
 use crate::steps::{Place, TurnRule, Words};
-use crate::turn::{Turn, leave};
+use crate::turn::leave;
 use crate::view::PassView;
 use atomic_table::{Badge, Table};
 use gw_pool::{Closed, Limits, PoolCore};
@@ -96,8 +96,8 @@ impl<C: Link> Pool<C> {
         match core.close() {
             Ok((journal, idle)) => Ok(Closed { journal, idle }),
             Err(core) => {
-                let turn = Turn { place, core };
-                last.badge = leave(&self.table.shared, turn, &last.out, last.waits);
+                steps::state_home(&self.table.shared, &mut place, core);
+                last.badge = leave(&self.table.shared, place, &last.out, last.waits);
                 Err((self, last))
             }
         }

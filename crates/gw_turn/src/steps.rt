@@ -18,7 +18,7 @@ const TURN: usize = 0;
 const COUNT: usize = 1;
 
 // The slot of the pool's state.
-const STATE: usize = 0;
+pub(crate) const STATE: usize = 0;
 
 pub struct TurnRule;
 
@@ -126,17 +126,16 @@ impl<C: Link, E: Becomes> Play<Option<PoolCore<C>>, PassView> for CountingUp<E> 
 pub(crate) fn count_up<E: Becomes, C: Link>(
     words: &Words<C>,
     place: &mut Place<C>,
-    core: &PoolCore<C>,
+    count: u64,
     _out: &Tokens,
 )
     requires seat { IsAt words.now.table_id place.old }
     requires turn { place.old.me.0.turn ≡ true }
-    requires becomes { (E.core ≡ core.now) × (E.out ≡ _out.now.out) }
-    requires entry { Entering place.old.me.0.own.number (core_of place.old.me.0) core.now place.old.me.0.own.out _out.now.out }
+    requires becomes { (count ≡ length E.core.journal) × (E.out ≡ _out.now.out) }
+    requires entry { Entering place.old.me.0.own.number (core_of place.old.me.0) E.core place.old.me.0.own.out _out.now.out }
     ensures same { IsSame place.old place.new }
-    ensures view { place.new.me ≡ (counted core.now _out.now.out place.old.me.0, place.old.me.1) }
+    ensures view { place.new.me ≡ (counted E.core _out.now.out place.old.me.0, place.old.me.1) }
 {
-    let count = core.journal().len() as u64;
     words.swap::<CountingUp<E>>(place, COUNT, count);
 }
 
