@@ -45,18 +45,18 @@ pooled_looked a b others l waits = record {
   waits = waits;
 }
 
--- a call that names the moment just read
-pub called : (old new : WireView) (a b : Lent) (others : List Entry) (asked : Call) (outcome : Outcome) (now : ℕ) → NowStep old new now
-    → call_moments asked ≡ now ∷ [] → Calls a b others asked outcome → b.waits ≡ a.waits
-    → Doing (span old new a b) (entered (others ++ entry_of a.number asked outcome.reply ∷ []))
-called old new a b others asked outcome now step names c waits =
+-- a call that names the wire's moment
+pub called : (wire : WireView) (a b : Lent) (others : List Entry) (asked : Call) (outcome : Outcome) → wire.aged ≡ false
+    → call_moments asked ≡ wire.moment ∷ [] → Calls a b others asked outcome → b.waits ≡ a.waits
+    → Doing (span wire wire a b) (entered (others ++ entry_of a.number asked outcome.reply ∷ []))
+called wire a b others asked outcome fresh names c waits =
     let entry : Entry = entry_of a.number asked outcome.reply in
     let made : List Entry = others ++ entry ∷ [] in
     record {
-      fresh = step.aged;
-      wired = wired_call old new [] made step.later step.log;
+      fresh = fresh;
+      wired = wired_call wire wire [] made (later_same wire) (Logs-none wire.log);
       pooled = pooled_called a b others asked outcome c waits;
-      timed = rw (own_last others entry a.number c.meets.foreign refl, names) (rw (← step.given) (step.later.moment, omega arith));
+      timed = rw (own_last others entry a.number c.meets.foreign refl, names) (omega arith, omega arith);
     }
 
 -- a call that names no moment, while the wire rests

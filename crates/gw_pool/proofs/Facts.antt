@@ -5,3 +5,4 @@ pub use Rattle.gw_pool.proofs.Left.{gone_then, gone_foreign, moments_then, want_
 pub use Rattle.gw_pool.proofs.Mades.{mine_append, mine_push, mine_one}
 pub use Rattle.gw_pool.proofs.OwnEntries.{made_stands, started_stands, dialed_stands, failed_stands}
 pub use Rattle.gw_pool.proofs.Staying.{leases_stay, out_stays}
+pub use Rattle.gw_pool.proofs.Owns.{found_among}

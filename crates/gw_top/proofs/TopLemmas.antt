@@ -80,7 +80,7 @@ refuses_with old mid new status front line report l p r = record {
 -- a log that began without an act
 pub log_is : (first last : Option (List Act)) (P : List Act → Type 0) → HasNoActs first → Told first last P → LogIs last P
 log_is first None P n t = tt
-log_is None (Some acts) P n t = absurd t
+log_is None (Some acts) P n t = absurd t.1
 log_is (Some before) (Some acts) P n t = let same : acts ≡ t.0 = t.1 ∙ ap (λ l. l ++ t.0) n in subst P (sym same) t.2
 
 map_map : {A B C : Type 0} (f : B → C) (g : A → B) (l : List A) → map (λ x. f (g x)) l ≡ map f (map g l)
