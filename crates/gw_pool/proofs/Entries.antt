@@ -1,13 +1,6 @@
 -- An entry is made: the pool's rows and journal hold together as before.
-use Rattle.std.proofs.Common.{◌≡◌, ℕ, ◌+◌, ◌≤◌, List, [], ◌∷◌, ◌++◌, length, vec_capacity, Vec, Some, ap, ◌∙◌, arith, length-append}
-use Rattle.std.specs.List.{sum_by}
-use Rattle.std.proofs.lemmas.List.Sums.{sum_by-cons}
-use Rattle.gw_pool.specs.declared.rows.Place.{Place}
-use Rattle.gw_pool.specs.declared.rows.Place.TheVariants.{Out, Idle}
-use Rattle.gw_pool.specs.declared.rows.WantRow.{WantRow}
-use Rattle.gw_pool.specs.declared.rows.ConnRow.{ConnRow}
-use Rattle.gw_pool.specs.Places.{want_room, conn_room}
-use Rattle.gw_pool.proofs.Room.{some_room}
+use Rattle.std.proofs.Common.{◌≡◌, ℕ, ◌+◌, ◌<◌, ◌≤◌, ◌⊎◌, Bool, true, List, [], ◌∷◌, ◌++◌, length, vec_capacity, Vec, Some, ap, ◌∙◌, arith, length-append}
+use Rattle.std.proofs.lemmas.List.Elements.{All-push}
 use Rattle.std.specs.declared.alloc.Global.{Global}
 use Rattle.gw_pool.specs.declared.entry.Entry.{Entry}
 use Rattle.gw_pool.specs.declared.entry.Call.{Call}
@@ -17,7 +10,9 @@ use Rattle.gw_pool.specs.Machine.{Outcome, step}
 use Rattle.gw_pool.specs.History.{after, room}
 use Rattle.gw_pool.specs.Rows.{state_of, Keeps, HasRoom}
 use Rattle.gw_pool.specs.Core.{CoreView, Holds, Enters, entry_of}
+use Rattle.gw_pool.proofs.Below.{names_row, caller_below}
 use Rattle.gw_pool.proofs.Histories.{made}
+use Rattle.gw_pool.proofs.RowLimits.{rows_fit}
 use Rattle.gw_pool.proofs.Steps.{Goes}
 
 abbrev pub view_of : {C : Type 0} → Rows C → Vec Entry Global → CoreView
@@ -36,25 +31,13 @@ pub record Stepped {C : Type 0} (rows rows' : Rows C) (journal journal' : Vec En
   pub enough : length journal.items + 1 + room outcome.state ≤ rows.limits.journal
 
 -- the rows need no more room than there is
-few_wants : (xs : List WantRow) → length xs ≤ sum_by (λ r. want_room r.stage) xs
-few_wants [] = omega arith
-few_wants (x ∷ xs) = omega (arith, some_room x.stage, few_wants xs, sum_by-cons (λ r. want_room r.stage) x xs)
-
-some_conn_room : (place : Place) → 1 ≤ conn_room place
-some_conn_room (Out w c) = omega arith
-some_conn_room (Idle s t) = omega arith
-
-few_conns : (xs : List ConnRow) → length xs ≤ sum_by (λ r. conn_room r.place) xs
-few_conns [] = omega arith
-few_conns (x ∷ xs) = omega (arith, some_conn_room x.place, few_conns xs, sum_by-cons (λ r. conn_room r.place) x xs)
-
 pub has_room : {C : Type 0} (rows : Rows C) (journal : Vec Entry Global) → Holds rows journal → HasRoom rows
-unfolding room
-has_room rows journal h = record {
-  wants = omega (arith, h.fits, h.wants, few_wants rows.wants.items);
-  dials = omega (arith, h.fits, h.dials);
-  conns = omega (arith, h.fits, h.conns, few_conns rows.conns.rows);
-}
+has_room rows journal h =
+    let fit = rows_fit rows.limits journal.items h.legal h.passes h.callers in record {
+      wants = omega (arith, ap (λ t. length t.wants) h.state, fit.wants, h.wants);
+      dials = omega (arith, ap (λ t. length t.dials) h.state, fit.dials, h.dials);
+      conns = omega (arith, ap (λ t. length t.conns) h.state, fit.conns, h.conns);
+    }
 
 pub stepped : {C : Type 0} (rows rows' : Rows C) (journal journal' : Vec Entry Global) (caller : ℕ) (asked : Call) (outcome : Outcome) (answer : Reply) → Holds rows journal → step rows.limits (state_of rows) caller asked ≡ Some outcome → state_of rows' ≡ outcome.state → Keeps rows rows' → answer ≡ outcome.reply → journal'.items ≡ journal.items ++ entry_of caller asked answer ∷ [] → vec_capacity journal' ≡ vec_capacity journal → Goes (state_of rows) outcome.state 0 1 → Stepped rows rows' journal journal' caller asked outcome
 stepped rows rows' journal journal' caller asked outcome answer h f s k r i v g = record {
@@ -85,8 +68,10 @@ stepped_want rows rows' journal journal' caller asked outcome answer h f s k r i
 fits_after : {C : Type 0} (rows : Rows C) (journal : Vec Entry Global) (caller : ℕ) (asked : Call) (outcome : Outcome) → Holds rows journal → step rows.limits (state_of rows) caller asked ≡ Some outcome → step rows.limits (after rows.limits journal.items) caller asked ≡ Some outcome
 fits_after rows journal caller asked outcome h f = rw (← h.state) f
 
-pub holds_then : {C : Type 0} (rows rows' : Rows C) (journal journal' : Vec Entry Global) (caller : ℕ) (asked : Call) (outcome : Outcome) → Holds rows journal → Stepped rows rows' journal journal' caller asked outcome → Holds rows' journal'
-holds_then rows rows' journal journal' caller asked outcome h s =
+pub holds_then : {C : Type 0} (rows rows' : Rows C) (journal journal' : Vec Entry Global) (caller : ℕ) (asked : Call) (outcome : Outcome) → Holds rows journal → (names_row asked ≡ true) ⊎ (caller < rows.limits.passes) → Stepped rows rows' journal journal' caller asked outcome → Holds rows' journal'
+holds_then rows rows' journal journal' caller asked outcome h named s =
+    let at = fits_after rows journal caller asked outcome h s.fits in
+    let below = caller_below rows.limits journal.items caller asked outcome h.legal h.passes h.callers at named in
     let m = made rows.limits journal.items caller asked outcome h.legal (fits_after rows journal caller asked outcome h s.fits) in
     let len : length journal'.items ≡ length journal.items + 1 = ap (λ l. length l) s.items ∙ length-append journal.items (entry_of caller asked outcome.reply ∷ []) in
     let nw : rows'.next_want ≡ outcome.state.next_want = ap (λ t. t.next_want) s.state in
@@ -99,9 +84,11 @@ holds_then rows rows' journal journal' caller asked outcome h s =
       legal = rw (s.keeps.limits, s.items) m.legal;
       fits = omega (arith, len, rm, lj, s.enough);
       small = omega (arith, lj, h.small);
-      wants = omega (arith, lj, s.keeps.wants, h.wants);
-      dials = omega (arith, lj, s.keeps.dials, h.dials);
-      conns = omega (arith, lj, s.keeps.conns, h.conns);
+      passes = rw s.keeps.limits h.passes;
+      callers = rw (s.keeps.limits, s.items) (All-push (λ entry. entry.caller < rows.limits.passes) journal.items (entry_of caller asked outcome.reply) h.callers below);
+      wants = rw (s.keeps.limits, s.keeps.wants) h.wants;
+      dials = rw (s.keeps.limits, s.keeps.dials) h.dials;
+      conns = rw (s.keeps.limits, s.keeps.conns) h.conns;
       entries = omega (arith, lj, s.capacity, h.entries);
       next_want = omega (arith, len, nw, s.next_want, h.next_want);
       next_conn = omega (arith, len, nc, s.next_conn, h.next_conn);

@@ -13,11 +13,11 @@ use Rattle.gw_pool.specs.declared.rows.ConnRow.{ConnRow}
 use Rattle.gw_pool.specs.declared.rows.DialRow.{DialRow}
 use Rattle.gw_pool.specs.Places.{is_waiting}
 use Rattle.gw_pool.specs.State.{State, empty, wants_it, is_with}
-use Rattle.gw_pool.specs.Machine.{Outcome, step, want_step, standing, NotComing}
+use Rattle.gw_pool.specs.Machine.{Outcome, step, standing, NotComing}
 use Rattle.gw_pool.specs.History.{IsLegal, after, mine}
 use Rattle.gw_pool.specs.Keeps.{IsWanted, IsServed, IsOut, IsDialed, Comes, IsOver, IsKeptByGrant}
 use Rattle.gw_pool.specs.Owner.{owner}
-use Rattle.gw_pool.specs.Ties.{Among, one, occ_of}
+use Rattle.gw_pool.specs.Ties.{Among, Weigh, one, occ_of}
 use Rattle.gw_pool.proofs.Comings.{Goes, Stays, IsGranted, ByConn, other_step, other_dial}
 use Rattle.gw_pool.proofs.Inverts.{want_was, start_was, dialed_was, failed_was, cancel_was, back_was, drop_was, expire_was, close_was, IdleWas, CancelRowWas, CancelConnWas}
 use Rattle.gw_pool.proofs.Numbers.{Numbers, legal_numbers}
@@ -94,31 +94,37 @@ no_conn_by want s (Some row) f e = absurd (omega (arith, with_rows want s row f,
 pub weight_over : (want : ℕ) (s : State) → weight (occ_of want) s ≡ 0 → standing s want ≡ NotComing
 weight_over want s e = not_coming s want (no_conn_by want s (find (is_with want) s.conns) refl e) (no_row want s (omega (arith, rows_few want s, e)))
 
--- no call makes an old want heavier
-state_on : (w : ℕ) (s : State) (o p : Outcome) → o ≡ p → weight (occ_of w) p.state ≤ weight (occ_of w) s → weight (occ_of w) o.state ≤ weight (occ_of w) s
-state_on w s o p e l = rw e l
+-- no call but a want makes anything heavier that weighs connections as nothing
+state_on : (g : Weigh) (s : State) (n : ℕ) (o p : Outcome) → o ≡ p → weight g p.state ≤ weight g s + n → weight g o.state ≤ weight g s + n
+state_on g s n o p e l = rw e l
 
-cancel_weighs : (limits : Limits) (s : State) (d w v now : ℕ) (o : Outcome) → CancelRowWas limits s d v o ⊎ CancelConnWas limits s d v now o → weight (occ_of w) o.state ≤ weight (occ_of w) s
-cancel_weighs limits s d w v now o (inl was) = state_on w s o _ was.same (omega (arith, (cancel_less (occ_of w) limits s v was.row was.found).weight))
-cancel_weighs limits s d w v now o (inr was) = state_on w s o _ was.same (omega (arith, (cancel_conn_less (occ_of w) limits s v now was.row was.found).weight))
+cancel_weighs : (g : Weigh) (limits : Limits) (s : State) (d v now : ℕ) (o : Outcome) → CancelRowWas limits s d v o ⊎ CancelConnWas limits s d v now o → weight g o.state ≤ weight g s + 0
+cancel_weighs g limits s d v now o (inl was) = state_on g s 0 o _ was.same (omega (arith, (cancel_less g limits s v was.row was.found).weight))
+cancel_weighs g limits s d v now o (inr was) = state_on g s 0 o _ was.same (omega (arith, (cancel_conn_less g limits s v now was.row was.found).weight))
 
-want_weighs : (limits : Limits) (s : State) (d w host now : ℕ) → w < s.next_want → weight (occ_of w) (want_step limits s d host now).state ≤ weight (occ_of w) s
-want_weighs limits s d w host now old = let other : one w s.next_want ≡ 0 = one_other w s.next_want (λ e. omega (arith, e, old)) in omega (arith, adds_at_most (occ_of w) limits s d host now, other)
+abbrev pub new_weight : Weigh → State → Call → ℕ
+new_weight g s (call.Want host now) = g.want s.next_want
+new_weight g s _ = 0
 
-step_weighs : (limits : Limits) (s : State) (d w : ℕ) (asked : Call) (o : Outcome) → step limits s d asked ≡ Some o → w < s.next_want → weight (occ_of w) o.state ≤ weight (occ_of w) s
-step_weighs limits s d w (call.Want host now) o f old = state_on w s o _ (want_was limits s d host now o f) (want_weighs limits s d w host now old)
-step_weighs limits s d w (call.Start v) o f old = let was = start_was limits s d v o f in state_on w s o _ was.same (omega (arith, (start_less (occ_of w) s v was.row was.found was.granted).weight))
-step_weighs limits s d w (call.Dialed v link now) o f old = let was = dialed_was limits s d v link now o f in state_on w s o _ was.same (omega (arith, (dialed_adds (occ_of w) limits s v link now was.row was.found).weight))
-step_weighs limits s d w (call.DialFailed v) o f old = let was = failed_was limits s d v o f in state_on w s o _ was.same (omega (arith, (failed_less (occ_of w) limits s v was.row was.found).weight))
-step_weighs limits s d w (call.Cancel v now) o f old = cancel_weighs limits s d w v now o (cancel_was limits s d v now o f)
-step_weighs limits s d w (call.GiveBack conn now) o f old = let was = back_was limits s d conn now o f in state_on w s o _ was.same (omega (arith, (back_less (occ_of w) limits s conn now was.row was.found).weight))
-step_weighs limits s d w (call.Drop conn) o f old = let was = drop_was limits s d conn o f in state_on w s o _ was.same (omega (arith, (drop_less (occ_of w) limits s conn was.row was.found).weight))
-step_weighs limits s d w (call.Expire now) o f old = let was = expire_was limits s d now o f in state_on w s o _ was.same (omega (arith, (oldest_keeps (occ_of w) s).weight))
-step_weighs limits s d w call.CloseIdle o f old = let was = close_was limits s d o f in state_on w s o _ was.same (omega (arith, (oldest_keeps (occ_of w) s).weight))
+pub step_weighs : (g : Weigh) (limits : Limits) (s : State) (d : ℕ) (asked : Call) (o : Outcome) → ((n : ℕ) → g.conn n ≡ 0) → step limits s d asked ≡ Some o → weight g o.state ≤ weight g s + new_weight g s asked
+step_weighs g limits s d (call.Want host now) o z f = state_on g s (g.want s.next_want) o _ (want_was limits s d host now o f) (adds_at_most g limits s d host now)
+step_weighs g limits s d (call.Start v) o z f = let was = start_was limits s d v o f in state_on g s 0 o _ was.same (omega (arith, (start_less g s v was.row was.found was.granted).weight))
+step_weighs g limits s d (call.Dialed v link now) o z f = let was = dialed_was limits s d v link now o f in state_on g s 0 o _ was.same (omega (arith, (dialed_adds g limits s v link now was.row was.found).weight, z s.next_conn))
+step_weighs g limits s d (call.DialFailed v) o z f = let was = failed_was limits s d v o f in state_on g s 0 o _ was.same (omega (arith, (failed_less g limits s v was.row was.found).weight))
+step_weighs g limits s d (call.Cancel v now) o z f = cancel_weighs g limits s d v now o (cancel_was limits s d v now o f)
+step_weighs g limits s d (call.GiveBack conn now) o z f = let was = back_was limits s d conn now o f in state_on g s 0 o _ was.same (omega (arith, (back_less g limits s conn now was.row was.found).weight))
+step_weighs g limits s d (call.Drop conn) o z f = let was = drop_was limits s d conn o f in state_on g s 0 o _ was.same (omega (arith, (drop_less g limits s conn was.row was.found).weight))
+step_weighs g limits s d (call.Expire now) o z f = let was = expire_was limits s d now o f in state_on g s 0 o _ was.same (omega (arith, (oldest_keeps g s).weight))
+step_weighs g limits s d call.CloseIdle o z f = let was = close_was limits s d o f in state_on g s 0 o _ was.same (omega (arith, (oldest_keeps g s).weight))
+
+-- none makes an old want heavier
+old_new : (w : ℕ) (s : State) (asked : Call) → w < s.next_want → new_weight (occ_of w) s asked ≡ 0
+old_new w s (call.Want host now) old = one_other w s.next_want (λ e. omega (arith, e, old))
+old_new w s _ old = refl
 
 pub over_step : (limits : Limits) (s : State) (d want : ℕ) (asked : Call) (o : Outcome) → step limits s d asked ≡ Some o → IsOver want s → IsOver want o.state
 over_step limits s d want asked o f k = record {
-  none = weight_over want o.state (omega (arith, step_weighs limits s d want asked o f k.made, over_weight want s k.none));
+  none = weight_over want o.state (omega (arith, step_weighs (occ_of want) limits s d asked o (λ n. refl) f, old_new want s asked k.made, over_weight want s k.none));
   made = omega (arith, k.made, not_less want s asked o (step_serves want limits s d asked o f));
 }
 

@@ -16,7 +16,7 @@ pub record Was (b : Bool) (o given : Outcome) : Type 0 where
   pub holds : b ≡ true
   pub same : given ≡ o
 
-was : (b : Bool) (o given : Outcome) → when b o ≡ Some given → Was b o given
+pub was : (b : Bool) (o given : Outcome) → when b o ≡ Some given → Was b o given
 was true o given e = record { holds = refl; same = cc }
 was false o given e = absurd (cc)
 
@@ -166,3 +166,8 @@ close_with s o (Some row, t) f e =
 pub close_was : (limits : Limits) (s : State) (caller : ℕ) (o : Outcome) → step limits s caller call.CloseIdle ≡ Some o → IdleWas s o
 unfolding step
 close_was limits s caller o e = close_with s o (take_oldest s) refl e
+
+-- a want fits where its caller has fewer units than it may have
+pub want_few : (limits : Limits) (s : State) (caller host now : ℕ) (o : Outcome) → step limits s caller (call.Want host now) ≡ Some o → nat_lt (length (units s caller)) limits.per_pass ≡ true
+unfolding step
+want_few limits s caller host now o e = (was (nat_lt (length (units s caller)) limits.per_pass) (want_step limits s caller host now) o e).holds

@@ -34,6 +34,10 @@ pub mod Callers
 pub mod Staying
 pub mod Comings
 pub mod GoingOn
+pub mod Distincts
+pub mod FewRows
+pub mod Below
+pub mod RowLimits
 pub mod OwnEntries
 pub mod Left
 pub mod Judged

@@ -1,6 +1,7 @@
 -- How a want stands, by the rows that are found.
-use Rattle.std.proofs.Common.{◌≡◌, ℕ, ◌+◌, ◌<◌, ◌≤◌, Bool, true, false, List, [], length, Vec, vec_capacity, Option, Some, None, refl, ap, arith, lt-ltb, le-ltb, ◌^◌, cond}
+use Rattle.std.proofs.Common.{◌≡◌, ℕ, ◌+◌, ◌*◌, ◌<◌, ◌≤◌, Bool, true, false, List, [], length, Vec, vec_capacity, Option, Some, None, refl, ap, arith, lt-ltb, le-ltb, ◌^◌, cond}
 use Rattle.std.specs.List.{find}
+use Rattle.std.proofs.lemmas.List.Elements.{All-nil}
 use Rattle.std.specs.declared.alloc.Global.{Global}
 use Rattle.gw_wire.specs.Link.{LinkView}
 use Rattle.gw_pool.specs.declared.limits.Limits.{Limits}
@@ -111,13 +112,15 @@ unfolding refuses
 full_not rows journal n m h e f l = le-ltb rows.limits.journal (length journal.items + room (after rows.limits journal.items) + 6) (omega (arith, ap (λ s. room s) h.state))
 
 -- an empty pool
-pub opened : {C : Type 0} (rows : Rows C) (journal : Vec Entry Global) → rows.wants.items ≡ [] → rows.dials.items ≡ [] → rows.conns.rows ≡ [] → rows.next_want ≡ 0 → rows.next_conn ≡ 0 → rows.next_stamp ≡ 0 → journal.items ≡ [] → rows.limits.journal < 2 ^ 32 → rows.limits.journal + 1 ≤ vec_capacity rows.wants → rows.limits.journal + 1 ≤ vec_capacity rows.dials → rows.limits.journal + 1 ≤ rows.conns.room → rows.limits.journal + 1 ≤ vec_capacity journal → Holds rows journal
+pub opened : {C : Type 0} (rows : Rows C) (journal : Vec Entry Global) → rows.wants.items ≡ [] → rows.dials.items ≡ [] → rows.conns.rows ≡ [] → rows.next_want ≡ 0 → rows.next_conn ≡ 0 → rows.next_stamp ≡ 0 → journal.items ≡ [] → rows.limits.journal < 2 ^ 32 → 0 < rows.limits.passes → rows.limits.passes * rows.limits.per_pass + 1 ≤ vec_capacity rows.wants → rows.limits.passes * rows.limits.per_pass + 1 ≤ vec_capacity rows.dials → rows.limits.passes * rows.limits.per_pass + rows.limits.idle_total + 1 ≤ rows.conns.room → rows.limits.journal + 1 ≤ vec_capacity journal → Holds rows journal
 unfolding after IsLegal room
-opened rows journal w d c nw nc ns j small cw cd cc' cj = record {
+opened rows journal w d c nw nc ns j small passes cw cd cc' cj = record {
   state = rw (j, w, d, c, nw, nc, ns);
   legal = rw j tt;
   fits = rw (j, w, d, c) (omega arith);
   small = small;
+  passes = passes;
+  callers = rw j (All-nil (λ entry. entry.caller < rows.limits.passes));
   wants = cw;
   dials = cd;
   conns = cc';

@@ -1,5 +1,5 @@
 -- The pool over its journal: what contracts see of it, and what its calls do.
-use Rattle.std.specs.Prelude.{◌≡◌, ℕ, Bool, true, false, List, [], ◌∷◌, ◌++◌, ◌+◌, ◌^◌, ◌<◌, ◌≤◌, length, vec_capacity, Vec, Option, Some, None}
+use Rattle.std.specs.Prelude.{◌≡◌, ℕ, Bool, true, false, List, [], ◌∷◌, ◌++◌, ◌+◌, ◌*◌, ◌^◌, ◌<◌, ◌≤◌, length, vec_capacity, Vec, Option, Some, None}
 use Rattle.std.specs.List.{list_all}
 use Rattle.std.specs.declared.alloc.Global.{Global}
 use Rattle.gw_wire.specs.Link.{LinkView}
@@ -18,7 +18,7 @@ use Rattle.gw_pool.specs.declared.answers.CoreAsk.TheVariants as ask
 use Rattle.gw_pool.specs.Closes.{IsOf, Closes}
 use Rattle.gw_pool.specs.State.{State, rests}
 use Rattle.gw_pool.specs.Machine.{Outcome, step, Standing, Served, MayDial, NotServed, NotComing, standing}
-use Rattle.gw_pool.specs.History.{IsLegal, after, refuses, room}
+use Rattle.gw_pool.specs.History.{IsLegal, AreBelow, after, refuses, room}
 use Rattle.gw_pool.specs.Rows.{state_of}
 use Rattle.gw_pool.specs.Shelf.{LeavesTaken, LeavesOthers}
 
@@ -37,9 +37,11 @@ pub record Holds {C : Type 0} (rows : Rows C) (journal : Vec Entry Global) : Typ
   pub legal : IsLegal rows.limits journal.items
   pub fits : length journal.items + room (state_of rows) ≤ rows.limits.journal
   pub small : rows.limits.journal < 2 ^ 32
-  pub wants : rows.limits.journal + 1 ≤ vec_capacity rows.wants
-  pub dials : rows.limits.journal + 1 ≤ vec_capacity rows.dials
-  pub conns : rows.limits.journal + 1 ≤ rows.conns.room
+  pub passes : 0 < rows.limits.passes
+  pub callers : AreBelow rows.limits.passes journal.items
+  pub wants : rows.limits.passes * rows.limits.per_pass + 1 ≤ vec_capacity rows.wants
+  pub dials : rows.limits.passes * rows.limits.per_pass + 1 ≤ vec_capacity rows.dials
+  pub conns : rows.limits.passes * rows.limits.per_pass + rows.limits.idle_total + 1 ≤ rows.conns.room
   pub entries : rows.limits.journal + 1 ≤ vec_capacity journal
   pub next_want : rows.next_want ≤ length journal.items
   pub next_conn : rows.next_conn ≤ length journal.items

@@ -48,18 +48,18 @@ impl<C: Link> PoolCore<C> {
         ensures journal { IfOk result (λ p. p.journal ≡ []) }
         ensures taken { IfOk result (λ p. p.taken ≡ []) }
     {
-        let room = limits.journal as usize + 1;
+        let units = limits.passes as usize * limits.per_pass as usize;
         Ok(PoolCore {
             rows: Rows {
                 limits,
-                wants: Vec::with_capacity(alloc, room)?,
-                dials: Vec::with_capacity(alloc, room)?,
-                conns: Shelf::new(alloc, room)?,
+                wants: Vec::with_capacity(alloc, units + 1)?,
+                dials: Vec::with_capacity(alloc, units + 1)?,
+                conns: Shelf::new(alloc, units + limits.idle_total as usize + 1)?,
                 next_want: 0,
                 next_conn: 0,
                 next_stamp: 0,
             },
-            journal: Vec::with_capacity(alloc, room)?,
+            journal: Vec::with_capacity(alloc, limits.journal as usize + 1)?,
             alloc,
         })
     }

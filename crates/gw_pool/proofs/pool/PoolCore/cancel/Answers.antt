@@ -1,5 +1,5 @@
 -- The machine's step on a want that is given up, and its entry.
-use Rattle.std.proofs.Common.{sym, ◌∙◌, ap, None}
+use Rattle.std.proofs.Common.{sym, ◌∙◌, ap, None, inl, refl}
 use Rattle.std.specs.List.{find}
 use Rattle.gw_pool.specs.State.{wants_it}
 use Rattle.gw_pool.specs.Machine.{cancel_row}
@@ -18,7 +18,7 @@ pub invariant_of-self : goal.invariant_of-self
 invariant_of-self g c =
     let s = state_of c.self.inside.rows in
     let f = sym (c.in-Some.ensures ∙ ap (λ l. find (wants_it c.args.want) l) c.as_slice.ensures.value) in
-    holds_then c.self.inside.rows c.cancel_want-reply.new.self c.self.inside.journal c.enter.new.journal c.in-Some.row.caller (call.Cancel c.args.want c.args.now) (cancel_row c.self.inside.rows.limits s c.in-Some.row) c.self.invariant
+    holds_then c.self.inside.rows c.cancel_want-reply.new.self c.self.inside.journal c.enter.new.journal c.in-Some.row.caller (call.Cancel c.args.want c.args.now) (cancel_row c.self.inside.rows.limits s c.in-Some.row) c.self.invariant (inl refl)
     (stepped c.self.inside.rows c.cancel_want-reply.new.self c.self.inside.journal c.enter.new.journal c.in-Some.row.caller (call.Cancel c.args.want c.args.now) (cancel_row c.self.inside.rows.limits s c.in-Some.row) c.cancel_want-reply.result
     c.self.invariant (cancel_fits c.self.inside.rows.limits s c.args.want c.args.now c.in-Some.row f) c.cancel_want-reply.ensures.state c.cancel_want-reply.ensures.keeps c.cancel_want-reply.ensures.reply c.enter.ensures.items c.enter.ensures.room
     (cancel_goes c.self.inside.rows.limits s c.args.want c.in-Some.row f))

@@ -1,5 +1,5 @@
 -- The machine's step on a want whose connection waits for it, and its entry.
-use Rattle.std.proofs.Common.{sym, ◌∙◌, ap, None}
+use Rattle.std.proofs.Common.{sym, ◌∙◌, ap, None, inl, refl}
 use Rattle.std.specs.List.{find}
 use Rattle.gw_pool.specs.State.{wants_it, is_with}
 use Rattle.gw_pool.specs.Machine.{cancel_conn}
@@ -30,7 +30,7 @@ invariant_of-self g c =
     let f = sym (c.in-Some.ensures ∙ ap (λ l. find (is_with c.args.want) l) c.rows.ensures) in
     let n : find (wants_it c.args.want) c.self.inside.rows.wants.items ≡ None = rw (← c.self.view_is, ← c.self.invariant.state) at c.requires.none in
     let out = with_out c.self.inside.rows.conns.rows c.args.want c.in-Some.row f in
-    holds_then c.self.inside.rows c.cancel_conn-reply.new.self c.self.inside.journal c.enter.new.journal c.in-Out.caller (call.Cancel c.args.want c.args.now) (cancel_conn c.self.inside.rows.limits s c.args.want c.in-Some.row c.args.now) c.self.invariant
+    holds_then c.self.inside.rows c.cancel_conn-reply.new.self c.self.inside.journal c.enter.new.journal c.in-Out.caller (call.Cancel c.args.want c.args.now) (cancel_conn c.self.inside.rows.limits s c.args.want c.in-Some.row c.args.now) c.self.invariant (inl refl)
     (stepped c.self.inside.rows c.cancel_conn-reply.new.self c.self.inside.journal c.enter.new.journal c.in-Out.caller (call.Cancel c.args.want c.args.now) (cancel_conn c.self.inside.rows.limits s c.args.want c.in-Some.row c.args.now) c.cancel_conn-reply.result.reply
     c.self.invariant (cancel_conn_fits c.self.inside.rows.limits s c.args.want c.args.now c.in-Out.want c.in-Out.caller c.in-Some.row n f c.in-Out.is) c.cancel_conn-reply.ensures.state c.cancel_conn-reply.ensures.keeps c.cancel_conn-reply.ensures.reply c.enter.ensures.items c.enter.ensures.room
     (cancel_conn_goes c.self.inside.rows.limits s c.args.want c.args.now out.0 c.in-Some.row f out.1))

@@ -1,5 +1,5 @@
 -- The machine's step on the least recently idle connection, and its entry.
-use Rattle.std.proofs.Common.{◌≡◌, sym, ◌∙◌, ap, refl, Some}
+use Rattle.std.proofs.Common.{◌≡◌, sym, ◌∙◌, ap, refl, Some, inr}
 use Rattle.gw_pool.specs.State.{take_oldest}
 use Rattle.gw_pool.specs.Machine.{taken_row}
 use Rattle.gw_pool.specs.Rows.{state_of}
@@ -16,7 +16,7 @@ invariant_of-self g c =
     let s = state_of c.self.inside.rows in
     let e : (take_oldest s).0 ≡ Some c.in-Some.field-0.row = sym c.take_oldest.ensures.row ∙ ap resting_row c.in-Some.is in
     let l : state_of c.take_oldest.new.self ≡ (take_oldest s).1 = c.take_oldest.ensures.state in
-    holds_then c.self.inside.rows c.take_oldest.new.self c.self.inside.journal c.enter.new.journal c.args.caller call.CloseIdle (taken_row c.in-Some.field-0.row (state_of c.take_oldest.new.self)) c.self.invariant
+    holds_then c.self.inside.rows c.take_oldest.new.self c.self.inside.journal c.enter.new.journal c.args.caller call.CloseIdle (taken_row c.in-Some.field-0.row (state_of c.take_oldest.new.self)) c.self.invariant (inr (rw (← c.self.view_is) at c.requires))
     (stepped c.self.inside.rows c.take_oldest.new.self c.self.inside.journal c.enter.new.journal c.args.caller call.CloseIdle (taken_row c.in-Some.field-0.row (state_of c.take_oldest.new.self)) (reply.Taken c.in-Some.field-0.row.conn) c.self.invariant (close_fits c.self.inside.rows.limits s c.args.caller c.in-Some.field-0.row (state_of c.take_oldest.new.self) e l) refl c.take_oldest.ensures.keeps refl c.enter.ensures.items c.enter.ensures.room (idle_goes s (state_of c.take_oldest.new.self) c.in-Some.field-0.row e l))
 
 pub returns-in-Some : goal.returns-in-Some

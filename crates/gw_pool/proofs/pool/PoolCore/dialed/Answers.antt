@@ -1,5 +1,5 @@
 -- The machine's step on a dial that gave a connection, and its entry.
-use Rattle.std.proofs.Common.{sym, ◌∙◌, ap}
+use Rattle.std.proofs.Common.{sym, ◌∙◌, ap, inl, refl}
 use Rattle.std.specs.List.{find}
 use Rattle.gw_pool.specs.State.{dials_for}
 use Rattle.gw_pool.specs.Machine.{dialed_row}
@@ -17,7 +17,7 @@ pub invariant_of-self : goal.invariant_of-self
 invariant_of-self g c =
     let s = state_of c.self.inside.rows in
     let f = sym (c.in-Some.ensures ∙ ap (λ l. find (dials_for c.args.want) l) c.as_slice.ensures.value) in
-    holds_then c.self.inside.rows c.dialed-reply.new.self c.self.inside.journal c.enter.new.journal c.in-Some.dial.caller (call.Dialed c.args.want c.number-link.result c.args.now) (dialed_row c.self.inside.rows.limits s c.in-Some.dial c.number-link.result c.args.now) c.self.invariant
+    holds_then c.self.inside.rows c.dialed-reply.new.self c.self.inside.journal c.enter.new.journal c.in-Some.dial.caller (call.Dialed c.args.want c.number-link.result c.args.now) (dialed_row c.self.inside.rows.limits s c.in-Some.dial c.number-link.result c.args.now) c.self.invariant (inl refl)
     (stepped c.self.inside.rows c.dialed-reply.new.self c.self.inside.journal c.enter.new.journal c.in-Some.dial.caller (call.Dialed c.args.want c.number-link.result c.args.now) (dialed_row c.self.inside.rows.limits s c.in-Some.dial c.number-link.result c.args.now) c.dialed-reply.result.reply
     c.self.invariant (dialed_fits c.self.inside.rows.limits s c.args.want c.number-link.result c.args.now c.in-Some.dial f) c.dialed-reply.ensures.state c.dialed-reply.ensures.keeps c.dialed-reply.ensures.reply c.enter.ensures.items c.enter.ensures.room
     (dialed_goes c.self.inside.rows.limits s c.args.want c.number-link.result c.args.now c.in-Some.dial f))

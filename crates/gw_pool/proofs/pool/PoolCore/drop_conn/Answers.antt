@@ -1,5 +1,5 @@
 -- The machine's step on a connection that is given up, and its entry.
-use Rattle.std.proofs.Common.{sym, ◌∙◌, ap}
+use Rattle.std.proofs.Common.{sym, ◌∙◌, ap, inl, refl}
 use Rattle.std.specs.List.{find}
 use Rattle.gw_pool.specs.State.{has_number}
 use Rattle.gw_pool.specs.Machine.{drop_row}
@@ -17,7 +17,7 @@ pub invariant_of-self : goal.invariant_of-self
 invariant_of-self g c =
     let s = state_of c.self.inside.rows in
     let f = sym (c.in-Some.ensures ∙ ap (λ l. find (has_number c.args.no) l) c.rows.ensures) in
-    holds_then c.self.inside.rows c.drop_conn-reply.new.self c.self.inside.journal c.enter.new.journal c.in-Out.caller (call.Drop c.args.no) (drop_row c.self.inside.rows.limits s c.in-Some.row) c.self.invariant
+    holds_then c.self.inside.rows c.drop_conn-reply.new.self c.self.inside.journal c.enter.new.journal c.in-Out.caller (call.Drop c.args.no) (drop_row c.self.inside.rows.limits s c.in-Some.row) c.self.invariant (inl refl)
     (stepped c.self.inside.rows c.drop_conn-reply.new.self c.self.inside.journal c.enter.new.journal c.in-Out.caller (call.Drop c.args.no) (drop_row c.self.inside.rows.limits s c.in-Some.row) c.drop_conn-reply.result
     c.self.invariant (drop_fits c.self.inside.rows.limits s c.args.no c.in-Out.want c.in-Out.caller c.in-Some.row f c.in-Out.is) c.drop_conn-reply.ensures.state c.drop_conn-reply.ensures.keeps c.drop_conn-reply.ensures.reply c.enter.ensures.items c.enter.ensures.room
     (drop_goes c.self.inside.rows.limits s c.args.no c.in-Out.want c.in-Out.caller c.in-Some.row f c.in-Out.is))

@@ -1,5 +1,5 @@
 -- The machine's step on the least recently idle connection, and its entry.
-use Rattle.std.proofs.Common.{◌≡◌, refl, Some, true}
+use Rattle.std.proofs.Common.{◌≡◌, refl, Some, true, inr}
 use Rattle.gw_pool.specs.Places.{since_of}
 use Rattle.gw_pool.specs.State.{take_oldest, is_expired}
 use Rattle.gw_pool.specs.Machine.{taken_row}
@@ -17,7 +17,7 @@ invariant_of-self g c =
     let e : (take_oldest s).0 ≡ Some c.in-Some.field-0.row = rw c.in-Some.is at c.take_expired.ensures.row in
     let l : state_of c.take_expired.new.self ≡ (take_oldest s).1 = rw c.in-Some.is at c.take_expired.ensures.state in
     let x : is_expired c.self.inside.rows.limits (since_of c.in-Some.field-0.row.place) c.args.now ≡ true = rw c.in-Some.is at c.take_expired.ensures.expired in
-    holds_then c.self.inside.rows c.take_expired.new.self c.self.inside.journal c.enter.new.journal c.args.caller (call.Expire c.args.now) (taken_row c.in-Some.field-0.row (state_of c.take_expired.new.self)) c.self.invariant
+    holds_then c.self.inside.rows c.take_expired.new.self c.self.inside.journal c.enter.new.journal c.args.caller (call.Expire c.args.now) (taken_row c.in-Some.field-0.row (state_of c.take_expired.new.self)) c.self.invariant (inr (rw (← c.self.view_is) at c.requires))
     (stepped c.self.inside.rows c.take_expired.new.self c.self.inside.journal c.enter.new.journal c.args.caller (call.Expire c.args.now) (taken_row c.in-Some.field-0.row (state_of c.take_expired.new.self)) (reply.Taken c.in-Some.field-0.row.conn) c.self.invariant (expire_fits c.self.inside.rows.limits s c.args.caller c.args.now c.in-Some.field-0.row (state_of c.take_expired.new.self) e l x) refl c.take_expired.ensures.keeps refl c.enter.ensures.items c.enter.ensures.room (idle_goes s (state_of c.take_expired.new.self) c.in-Some.field-0.row e l))
 
 pub returns-in-Some : goal.returns-in-Some

@@ -1,5 +1,5 @@
 -- The machine's step on a granted want, and its entry.
-use Rattle.std.proofs.Common.{sym, ◌∙◌, ap, refl}
+use Rattle.std.proofs.Common.{sym, ◌∙◌, ap, refl, inl}
 use Rattle.std.specs.List.{find}
 use Rattle.gw_pool.specs.State.{wants_it}
 use Rattle.gw_pool.specs.Machine.{start_row}
@@ -18,7 +18,7 @@ pub invariant_of-self : goal.invariant_of-self
 invariant_of-self g c =
     let s = state_of c.self.inside.rows in
     let f = sym (c.in-Some.ensures ∙ ap (λ l. find (wants_it c.args.want) l) c.as_slice.ensures.value) in
-    holds_then c.self.inside.rows c.start.new.self c.self.inside.journal c.enter.new.journal c.in-Some.row.caller (call.Start c.args.want) (start_row s c.in-Some.row) c.self.invariant
+    holds_then c.self.inside.rows c.start.new.self c.self.inside.journal c.enter.new.journal c.in-Some.row.caller (call.Start c.args.want) (start_row s c.in-Some.row) c.self.invariant (inl refl)
     (stepped c.self.inside.rows c.start.new.self c.self.inside.journal c.enter.new.journal c.in-Some.row.caller (call.Start c.args.want) (start_row s c.in-Some.row) reply.Go
     c.self.invariant (start_fits c.self.inside.rows.limits s c.args.want c.in-Some.row f (sym c.is_granted.ensures ∙ c.if-is_granted.true)) c.start.ensures.state c.start.ensures.keeps (start_reply s c.in-Some.row) c.enter.ensures.items c.enter.ensures.room
     (start_goes s c.args.want c.in-Some.row f (sym c.is_granted.ensures ∙ c.if-is_granted.true)))

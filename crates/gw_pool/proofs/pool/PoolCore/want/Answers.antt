@@ -6,7 +6,7 @@ use Rattle.gw_pool.proofs.Fits.{want_fits}
 use Rattle.gw_pool.proofs.Steps.{want_goes}
 use Rattle.gw_pool.proofs.Entries.{has_room, holds_then, enters_then}
 use Rattle.gw_pool.proofs.pool.PoolCore.want.Goals as goal
-use Rattle.std.proofs.Common.{◌≤◌, ◌+◌, arith, refl, length}
+use Rattle.std.proofs.Common.{◌≤◌, ◌+◌, arith, refl, length, inr}
 use Rattle.gw_pool.specs.History.{room}
 use Rattle.gw_pool.proofs.Entries.{stepped_want}
 use Rattle.gw_pool.proofs.Steps.{want_made}
@@ -24,7 +24,7 @@ invariant_of-self g c =
     let s = state_of c.self.inside.rows in
     let fit = want_fits c.self.inside.rows.limits s c.args.caller c.args.host c.args.now (rw (← c.self.view_is, ← c.self.invariant.state) at c.requires.few) in
     let enough : length c.self.inside.journal.items + room s + 6 ≤ c.self.inside.rows.limits.journal = omega (arith, c.len.ensures, c.room.ensures, c.if-len-room.false) in
-    holds_then c.self.inside.rows c.want-reply.new.self c.self.inside.journal c.enter.new.journal c.args.caller (call.Want c.args.host c.args.now) (want_step c.self.inside.rows.limits s c.args.caller c.args.host c.args.now) c.self.invariant
+    holds_then c.self.inside.rows c.want-reply.new.self c.self.inside.journal c.enter.new.journal c.args.caller (call.Want c.args.host c.args.now) (want_step c.self.inside.rows.limits s c.args.caller c.args.host c.args.now) c.self.invariant (inr (rw (← c.self.view_is) at c.requires.caller))
     (stepped_want c.self.inside.rows c.want-reply.new.self c.self.inside.journal c.enter.new.journal c.args.caller (call.Want c.args.host c.args.now) (want_step c.self.inside.rows.limits s c.args.caller c.args.host c.args.now) c.want-reply.result.reply
     c.self.invariant fit c.want-reply.ensures.state c.want-reply.ensures.keeps c.want-reply.ensures.reply c.enter.ensures.items c.enter.ensures.room
     (want_goes c.self.inside.rows.limits s c.args.caller c.args.host c.args.now) enough)
