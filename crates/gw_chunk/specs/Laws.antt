@@ -4,7 +4,8 @@ use Rattle.std.specs.List.{concat, flat_map}
 use Rattle.gw_chunk.specs.declared.error.ChunkError.{ChunkError}
 use Rattle.gw_chunk.specs.declared.position.Position.{Position}
 use Rattle.gw_chunk.specs.Chunked.{IsChunked, BreaksAtEnd, BadChunk, data_limit, piece_limit, coded_piece, coded_end, coded}
-use Rattle.gw_chunk.specs.Position.{first, is_undecided, after, Has, Fails}
+use Rattle.gw_chunk.specs.Part.{IsPart}
+use Rattle.gw_chunk.specs.Position.{first, is_undecided, after, given, Has, Fails}
 
 -- the grammar's texts and their data are those from the first position
 abbrev pub TextsFromFirst : Type 0
@@ -20,6 +21,10 @@ UndecidedIsNeither =
     (p : Position) (bytes : List ℕ)
     → (is_undecided (after p bytes) ≡ true)
     ↔ (((front more d : List ℕ) → bytes ≡ front ++ more → Has p front d → ⊥) × ((error : ChunkError) → Fails p bytes error → ⊥))
+
+-- the parts of a text and their data are those that leave the first position undecided
+abbrev pub PartsFromFirst : Type 0
+PartsFromFirst = (bytes d : List ℕ) → IsPart bytes d ↔ ((is_undecided (after first bytes) ≡ true) × (given first bytes ≡ d))
 
 -- no text is the front of another, and a text has one data
 abbrev pub NoTextBeginsAnother : Type 0

@@ -1,11 +1,12 @@
 //! Laws of chunked texts. Each is a function with an empty body, whose `ensures` is the law.
-ghost use Rattle.gw_chunk.specs.Laws.{CodedIsChunked, CodedIsReadAlone, CutsAreCoded, FaultsFromFirst, NoFaultInText, NoTextBeginsAnother, OneFault, PiecesAreChunked, TextsFromFirst, UndecidedIsNeither};
+ghost use Rattle.gw_chunk.specs.Laws.{CodedIsChunked, CodedIsReadAlone, CutsAreCoded, FaultsFromFirst, NoFaultInText, NoTextBeginsAnother, OneFault, PartsFromFirst, PiecesAreChunked, TextsFromFirst, UndecidedIsNeither};
 
-/// What is said of texts and of faults from the first position is what the grammar says of whole texts (RFC 9112,
+/// What is said of texts, of their parts and of faults from the first position is what the grammar says (RFC 9112,
 /// section 7.1).
 pub fn positions_follow_grammar()
     ensures texts { TextsFromFirst }
     ensures faults { FaultsFromFirst }
+    ensures parts { PartsFromFirst }
 {}
 
 /// Nothing is decided from a position exactly where neither the end of a text nor a fault has come.
