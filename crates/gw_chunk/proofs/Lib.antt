@@ -13,3 +13,4 @@ pub mod TextLaws
 pub mod Parts
 pub mod CodedLaws
 mod Rows
+pub mod Facts

@@ -1,5 +1,5 @@
 -- Laws of chunked texts.
-use Rattle.std.specs.Prelude.{◌≡◌, ℕ, ◌<◌, ◌≤◌, ◌↔◌, List, [], ◌∷◌, ◌++◌, length, true}
+use Rattle.std.specs.Prelude.{◌≡◌, ℕ, ◌<◌, ◌≤◌, ◌↔◌, List, [], ◌∷◌, ◌++◌, length, take, drop, true}
 use Rattle.std.specs.List.{concat, flat_map}
 use Rattle.gw_chunk.specs.declared.error.ChunkError.{ChunkError}
 use Rattle.gw_chunk.specs.declared.position.Position.{Position}
@@ -60,6 +60,10 @@ AreCut (piece ∷ next ∷ pieces) = (length piece ≡ piece_limit) × AreCut (n
 -- the text of data is what is written of such pieces of it
 abbrev pub CutsAreCoded : Type 0
 CutsAreCoded = (pieces : List (List ℕ)) → AreCut pieces → coded (concat pieces) ≡ flat_map coded_piece pieces ++ coded_end
+
+-- it begins with a chunk of its first piece, and goes on with the text of the rest
+abbrev pub CodedGoesOn : Type 0
+CodedGoesOn = (d : List ℕ) → 0 < length d → coded d ≡ coded_piece (take piece_limit d) ++ coded (drop piece_limit d)
 
 -- the encoder's text of data, up to the limit, is a text with that data; and whatever follows it, no other text
 -- stands at the front
