@@ -6,3 +6,4 @@ mod Placing
 mod Rows
 mod Sorting
 mod Stripping
+mod Tables

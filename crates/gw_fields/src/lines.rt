@@ -1,10 +1,10 @@
 //! Field lines that are about to be sent.
-ghost use Rattle.std.specs.Prelude.{◌≡◌, ◌∷◌, [], ◌++◌, ◌^◌, ◌-◌, filter, length, min, not, OnOk, OnErr};
+ghost use Rattle.std.specs.Prelude.{◌≡◌, ◌∷◌, [], ◌++◌, ◌^◌, ◌-◌, filter, length, min, not, IfOk, OnOk, OnErr};
 ghost use Rattle.gw_fields.specs.Fields.{is_named};
 ghost use Rattle.gw_fields.specs.Lines.{has_field, listed, pair_of, values_text, StartsWith};
 ghost use Rattle.gw_fields.specs.Order.{line_of, lines_of, sorted, spelled};
 
-use crate::fields::NoMemory;
+use crate::error::NoMemory;
 use std::alloc::{AllocError, Global};
 use std::marker::Model;
 
@@ -41,6 +41,15 @@ impl<'a> Lines<'a> {
         Lines {
             lines: Vec::new(alloc),
         }
+    }
+
+    /// No lines, with room for so many.
+    pub fn with_capacity(alloc: Global, count: usize) -> Result<Lines<'a>, NoMemory>
+        ensures { IfOk result (λ lines. lines ≡ []) }
+    {
+        Ok(Lines {
+            lines: Vec::with_capacity(alloc, count)?,
+        })
     }
 
     /// Adds a line behind the others. The name is in lower case. Where there is no memory, nothing is added.

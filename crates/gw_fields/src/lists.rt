@@ -19,8 +19,8 @@ pub(crate) fn lists_token(value: &[u8], token: &[u8]) -> bool
     }
 }
 
-// The first element, and what stands after its comma.
-fn split_element(value: &[u8]) -> (&[u8], Option<&[u8]>)
+/// The first element, and what stands after its comma.
+pub(crate) fn split_element(value: &[u8]) -> (&[u8], Option<&[u8]>)
     ensures { SplitsElement value.now result.0.now result.1 }
 {
     match place_of_comma(value) {
@@ -43,7 +43,8 @@ fn is_element(element: &[u8], token: &[u8]) -> bool
     trim(element).eq_ignore_ascii_case(token)
 }
 
-fn trim(bytes: &[u8]) -> &[u8]
+/// The bytes without the blanks at both ends.
+pub(crate) fn trim(bytes: &[u8]) -> &[u8]
     ensures { result.now ≡ trimmed bytes.now }
 {
     trim_end(trim_start(bytes))
