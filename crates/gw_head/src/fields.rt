@@ -95,7 +95,7 @@ fn agrees(bytes: &[u8], field: &HeaderSpan, name: &[u8], value: &[u8]) -> bool
 }
 
 /// The number that the value of a Content-Length writes; None where it is none.
-#[tactic(auto, using(crate::proofs::CheckLemmas::length_no, crate::proofs::CheckLemmas::length_yes))]
+#[tactic(auto, using(crate::proofs::CheckLemmas::length_no))]
 pub(crate) fn read_length(value: &[u8]) -> Option<u64>
     ensures { MatchOption result (is_length value.now ≡ false) (λ n. (is_length value.now ≡ true) × (n ≡ digits_value 10 value.now)) }
 {
