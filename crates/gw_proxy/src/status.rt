@@ -3,7 +3,7 @@ ghost use Rattle.std.specs.Prelude.{◌≡◌, ◌++◌, IfOk, OnOk};
 ghost use Rattle.gw_proxy.specs.Lines.{field_section};
 ghost use Rattle.gw_proxy.specs.OutReply.{close_fields, code_line, code_text, phrase_of, status_line_of, version_of};
 
-use crate::NoMemory;
+use crate::error::NoMemory;
 use crate::lines::push_section;
 use gw_fields::Lines;
 use http::StatusCode;
