@@ -1,4 +1,4 @@
-use Rattle.std.proofs.Common.{rules, ◌≡◌, ◌^◌, ◌-◌, arith, sym, ap, subst, ◌∙◌, min, take}
+use Rattle.std.proofs.Common.{rules, ◌^◌, ◌-◌, arith, ap, subst, ◌∙◌, min}
 use Rattle.std.specs.Char.{is_ascii_digit}
 use Rattle.std.specs.Str.Parse.{digits_value}
 use Rattle.std.proofs.lemmas.List.{take_all}
