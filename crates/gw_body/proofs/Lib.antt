@@ -1,4 +1,6 @@
 pub mod Taking
+mod Parts
 mod Readings
 mod Writing
 mod Rows
+pub mod Facts

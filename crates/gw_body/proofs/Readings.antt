@@ -9,7 +9,7 @@ use Rattle.gw_chunk.specs.Chunked.{IsChunked}
 use Rattle.gw_chunk.specs.declared.position.Position.{Position}
 use Rattle.gw_chunk.specs.declared.position.Position.TheVariants.{Line, Content, Closing, Fields, Ended, Refused as Faulty}
 use Rattle.gw_chunk.specs.Position.{is_ended, after, Has}
-use Rattle.gw_chunk.proofs.TextLaws.{text_has, has_text, bad_fails, fails_bad, fronts, no_text_begins_another, no_fault_in_text, undecided_from, undecided_end, undecided_fault}
+use Rattle.gw_chunk.proofs.Facts.{text_has, has_text, bad_fails, fails_bad, fronts, no_text_begins_another, no_fault_in_text, undecided_from, undecided_end, undecided_fault}
 use Rattle.gw_head.specs.declared.framing.Framing.{Framing}
 use Rattle.gw_head.specs.declared.framing.Framing.TheVariants.{None as NoBody, Length, Chunked, ToEnd}
 use Rattle.gw_body.specs.Body.{BodyOf, BadBody}

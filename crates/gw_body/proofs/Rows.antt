@@ -4,7 +4,7 @@ use Rattle.std.specs.Prelude.{codes, Option, Some, None}
 use Rattle.gw_chunk.specs.declared.error.ChunkError.TheVariants.{TooLarge}
 use Rattle.gw_chunk.specs.Bytes.{crlf}
 use Rattle.gw_chunk.specs.Chunked.{coded}
-use Rattle.gw_chunk.proofs.CodedLaws.{coded_is_chunked}
+use Rattle.gw_chunk.proofs.Facts.{coded_is_chunked}
 use Rattle.gw_head.specs.declared.framing.Framing.TheVariants.{None as NoBody, Length, Chunked, ToEnd}
 use Rattle.gw_head.specs.declared.reply.ReplyHead.{ReplyHead}
 use Rattle.gw_body.specs.declared.place.Place.TheVariants.{ToEnd as AtMost}

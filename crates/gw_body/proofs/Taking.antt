@@ -11,9 +11,8 @@ use Rattle.gw_chunk.specs.declared.decoder.ChunkStep.TheVariants.{Data, More, Do
 use Rattle.gw_chunk.specs.declared.position.Position.{Position}
 use Rattle.gw_chunk.specs.declared.position.Position.TheVariants.{Line, Content, Closing, Fields, Ended, Refused as Faulty}
 use Rattle.gw_chunk.specs.Fed as Chunks
-use Rattle.gw_chunk.specs.Position.{left_of, is_undecided, IsInside, Leads, Has}
-use Rattle.gw_chunk.proofs.Walks.{leads_back, inside_back, after-ended, ended_alone, leads_data}
-use Rattle.gw_chunk.proofs.TextLaws.{fronts}
+use Rattle.gw_chunk.specs.Position.{left_of, after, given, is_undecided, IsInside, Leads, Has}
+use Rattle.gw_chunk.proofs.Facts.{after-ended, ended_alone, fronts, given-append, inside_back, leads_back, leads_data}
 use Rattle.gw_body.specs.declared.place.Place.{Place}
 use Rattle.gw_body.specs.declared.place.Place.TheVariants.{Counted, Chunked, ToEnd, Refused}
 use Rattle.gw_body.specs.Places.{HasBody, FailsBody, data_among, left_behind}
@@ -22,7 +21,11 @@ use Rattle.gw_body.specs.Taken.{Takes, GivesData, Steps, Feeds, front_step}
 -- ---- bytes taken
 
 pub takes_none : (p : Place) → Takes p [] [] p
-takes_none p = record { has = λ more e rest. (λ k. k, λ k. k); fails = λ more error. (λ k. k, λ k. k) }
+takes_none p = record {
+  has = λ more e rest. (λ k. k, λ k. k);
+  fails = λ more error. (λ k. k, λ k. k);
+  among = λ more. refl;
+}
 
 -- first some bytes, and then others
 pub takes_then : (old mid new : Place) (a b d e : List ℕ) → Takes old a d mid → Takes mid b e new → Takes old (a ++ b) (d ++ e) new
@@ -40,6 +43,9 @@ takes_then old mid new a b d e h g = record {
         λ k. subst B (sym (append_assoc a b more)) ((h.fails (b ++ more) error).0 ((g.fails more error).0 k)),
         λ k. (g.fails more error).1 ((h.fails (b ++ more) error).1 (subst B (append_assoc a b more) k)),
       ));
+  among = λ more.
+      ap (data_among old) (append_assoc a b more) ∙ h.among (b ++ more) ∙ ap (λ l. d ++ l) (g.among more)
+      ∙ sym (append_assoc d e (data_among new more));
 }
 
 takes_and : (old mid new : Place) (bytes d : List ℕ) → Takes old bytes d mid → Takes mid [] [] new → Takes old bytes d new
@@ -52,7 +58,14 @@ takes_and old mid new bytes d h g = record {
     λ k. (h.fails more error).0 ((g.fails more error).0 k),
     λ k. (g.fails more error).1 ((h.fails more error).1 k),
   );
+  among = λ more. h.among more ∙ ap (λ l. d ++ l) (g.among more);
 }
+
+-- as many bytes as are left, and what was taken of them
+take_behind : (left : ℕ) (bytes more : List ℕ) → length bytes ≤ left → take left (bytes ++ more) ≡ bytes ++ take (left - length bytes) more
+take_behind left bytes more short =
+    same_lists (take left (bytes ++ more)) (bytes ++ take (left - length bytes) more) (grind (arith, common_steps))
+    (λ k d h. grind (arith, places))
 
 counted_takes : (left : ℕ) (bytes : List ℕ) → length bytes ≤ left → Takes (Counted left) bytes bytes (Counted (left - length bytes))
 counted_takes left bytes short = record {
@@ -63,6 +76,7 @@ counted_takes left bytes short = record {
         (append_cancel_left bytes more (e ++ rest) (text ∙ append_assoc bytes e rest), omega arith)),
   );
   fails = λ more error. (λ k. k, λ k. k);
+  among = λ more. take_behind left bytes more short;
 }
 
 to_end_takes : (left : ℕ) (bytes : List ℕ) → length bytes ≤ left → Takes (ToEnd left) bytes bytes (ToEnd (left - length bytes))
@@ -77,6 +91,7 @@ to_end_takes left bytes short = record {
     λ k. (let size = k.1 in let both = length-append bytes more in (k.0, omega arith)),
     λ k. (let size = k.1 in let both = length-append bytes more in (k.0, omega arith)),
   );
+  among = λ more. take_behind left bytes more short;
 }
 
 -- ---- of a chunked text
@@ -106,7 +121,16 @@ chunked_takes p q bytes d h = record {
         (fronts bytes more k.0 rest k.1)),
   );
   fails = λ more error. h.fails more error;
+  among = λ more.
+      given-append p bytes more ∙ ap (λ l. l ++ given (after p bytes) more) h.leads.out ∙ ap (λ r. d ++ given r more) h.leads.place;
 }
+
+pub given_ended : (bytes : List ℕ) → given Ended bytes ≡ []
+given_ended [] = refl
+given_ended (b ∷ bytes) = given_ended bytes
+
+take_nothing : (bytes : List ℕ) → take 0 bytes ≡ []
+take_nothing bytes = nil_from_length (take 0 bytes) (omega (arith, length-take 0 bytes))
 
 -- behind a text is the end
 ended_takes : Takes (Chunked Ended) [] [] (Counted 0)
@@ -118,6 +142,7 @@ ended_takes = record {
         (k.1 ∙ ap (λ l. l ++ rest) (alone.0 ∙ sym alone.1), ap length alone.1)),
   );
   fails = λ more error. (λ k. absurd k, λ k. (let ended = after-ended more in absurd (cc)));
+  among = λ more. given_ended more ∙ sym (take_nothing more);
 }
 
 -- ---- steps in a chunked text

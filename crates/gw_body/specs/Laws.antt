@@ -8,9 +8,10 @@ use Rattle.gw_head.specs.declared.framing.Framing.TheVariants.{None as NoBody, L
 use Rattle.gw_body.specs.declared.place.Place.{Place}
 use Rattle.gw_body.specs.declared.plan.Plan.{Plan}
 use Rattle.gw_body.specs.Body.{BodyOf, BadBody}
-use Rattle.gw_body.specs.Places.{begins, HasBody, FailsBody, data_among, is_done}
+use Rattle.gw_body.specs.Part.{IsPart}
+use Rattle.gw_body.specs.Places.{begins, HasBody, FailsBody, data_among, is_done, is_inside}
 use Rattle.gw_body.specs.Taken.{Takes, DecidesNothing}
-use Rattle.gw_body.specs.Written.{plan_of, piece_text, behind_piece, end_text, Accepts, MayEnd, IsWritable, written, body_text}
+use Rattle.gw_body.specs.Written.{plan_of, piece_text, behind_piece, end_text, rest_text, Accepts, MayEnd, MayGoOn, IsWritable, written, body_text}
 
 -- the bodies of a framing and their data are those from its first place
 abbrev pub BodiesFromFirst : Type 0
@@ -52,6 +53,12 @@ DoneIsWhole = (place : Place) → (is_done place ≡ true) ↔ ((rest : List ℕ
 abbrev pub TakenInTurn : Type 0
 TakenInTurn =
     (old mid new : Place) (a b d e : List ℕ) → Takes old a d mid → Takes mid b e new → Takes old (a ++ b) (d ++ e) new
+
+-- what a reader took of a body, without its end and without a fault, is a part of it
+abbrev pub TakenIsPart : Type 0
+TakenIsPart =
+    (framing : Framing) (bytes d : List ℕ) (place : Place) → Takes (begins framing) bytes d place → is_inside place ≡ true
+    → IsPart framing bytes d
 
 -- so much data may be read again
 abbrev pub IsReadable : Framing → List ℕ → Type 0
@@ -99,6 +106,22 @@ abbrev pub EndsWritten : Type 0
 EndsWritten =
     (framing : Framing) (d text : List ℕ) (plan : Plan) → HasWritten framing d text plan → MayEnd plan
     → text ++ end_text plan ≡ body_text framing d
+
+-- so far this data was written as this text, which begins the text of all data that begins so: with what is written of
+-- the rest it is that text
+abbrev pub HasBegun : Framing → List ℕ → List ℕ → Plan → Type 0
+HasBegun framing d text plan =
+    (more : List ℕ) → MayGoOn plan more → text ++ rest_text plan more ≡ body_text framing (d ++ more)
+
+-- it begins with nothing, and goes on with each piece
+abbrev pub BeginsText : Type 0
+BeginsText = (framing : Framing) → HasBegun framing [] [] (plan_of framing)
+
+abbrev pub GoesOnText : Type 0
+GoesOnText =
+    (framing : Framing) (d text piece : List ℕ) (plan : Plan) → HasBegun framing d text plan
+    → 0 < length piece → length piece ≤ piece_limit → Accepts plan piece
+    → HasBegun framing (d ++ piece) (text ++ piece_text plan piece) (behind_piece plan piece)
 
 -- the data has as many bytes as the framing says, or may have
 abbrev pub HasLength : Framing → List ℕ → Type 0

@@ -1,5 +1,5 @@
 -- Places in a body, which are all that the reader keeps, and what is said of the bytes from one on.
-use Rattle.std.specs.Prelude.{◌≡◌, ℕ, ◌<◌, ◌≤◌, ◌-◌, Bool, true, false, List, [], ◌++◌, length, take, ◌==◌}
+use Rattle.std.specs.Prelude.{◌≡◌, ℕ, ◌<◌, ◌≤◌, ◌-◌, Bool, true, false, List, [], ◌++◌, length, take, nat_lt, ◌==◌}
 use Rattle.gw_chunk.specs.declared.error.ChunkError.{ChunkError}
 use Rattle.gw_chunk.specs.declared.error.ChunkError.TheVariants.{TooLarge}
 use Rattle.gw_chunk.specs.Chunked.{data_limit}
@@ -54,6 +54,13 @@ is_done (Counted left) = left == 0
 is_done (Chunked p) = is_ended p
 is_done (ToEnd left) = false
 is_done (Refused fault) = false
+
+-- the place is neither behind the body nor behind a fault
+abbrev pub is_inside : Place → Bool
+is_inside (Counted left) = nat_lt 0 left
+is_inside (Chunked p) = is_undecided p
+is_inside (ToEnd left) = true
+is_inside (Refused fault) = false
 
 -- a chunked text is left with its end or its first fault
 abbrev pub is_open : Place → Bool

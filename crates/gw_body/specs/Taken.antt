@@ -10,11 +10,12 @@ use Rattle.gw_body.specs.declared.place.Place.TheVariants.{Counted, Chunked, ToE
 use Rattle.gw_body.specs.Places.{ended, HasBody, FailsBody, data_among, left_behind}
 
 -- the bytes, which have this data, were taken from the front of what the old place is before: what follows has data
--- from the new place exactly where the bytes and it have, from the old one, the data given and then that data; and
--- the faults likewise
+-- from the new place exactly where the bytes and it have, from the old one, the data given and then that data; the
+-- faults likewise; and so has the data among any bytes, a body or not
 pub record Takes (old : Place) (bytes d : List ℕ) (new : Place) : Type 0 where
   pub has : (more e rest : List ℕ) → HasBody new more e rest ↔ HasBody old (bytes ++ more) (d ++ e) rest
   pub fails : (more : List ℕ) (error : ChunkError) → FailsBody new more error ↔ FailsBody old (bytes ++ more) error
+  pub among : (more : List ℕ) → data_among old (bytes ++ more) ≡ d ++ data_among new more
 
 -- a range of data, the first in the piece, as far as the data and the piece go
 pub record GivesData (old : Place) (piece : List ℕ) (used «from» to : ℕ) (new : Place) : Type 0 where

@@ -1,5 +1,5 @@
 -- What a writer writes of a body's data, piece by piece.
-use Rattle.std.specs.Prelude.{◌≡◌, ℕ, ◌-◌, ◌<◌, ◌≤◌, false, List, [], ◌∷◌, ◌++◌, length, nat_lt}
+use Rattle.std.specs.Prelude.{◌≡◌, ℕ, ◌+◌, ◌-◌, ◌<◌, ◌≤◌, true, false, List, [], ◌∷◌, ◌++◌, length, nat_lt, slice_range}
 use Rattle.gw_chunk.specs.Chunked.{piece_limit, coded_piece, coded_end, coded}
 use Rattle.gw_head.specs.declared.framing.Framing.{Framing}
 use Rattle.gw_head.specs.declared.framing.Framing.TheVariants.{None as NoBody, Length, Chunked as InChunks, ToEnd as ToLinkEnd}
@@ -42,6 +42,40 @@ abbrev pub end_text : Plan → List ℕ
 end_text (Counted left) = []
 end_text (Chunked short) = coded_end
 end_text ToEnd = []
+
+-- data may still follow: in chunks none behind a short piece
+abbrev pub MayGoOn : Plan → List ℕ → Type 0
+MayGoOn (Counted left) more = Unit {0}
+MayGoOn (Chunked short) more = short ≡ true → more ≡ []
+MayGoOn ToEnd more = Unit {0}
+
+-- what is written of it and at the end
+abbrev pub rest_text : Plan → List ℕ → List ℕ
+rest_text (Counted left) more = more
+rest_text (Chunked short) more = coded more
+rest_text ToEnd more = more
+
+-- the bytes that are kept before and behind a piece that is framed where it stands
+abbrev pub gap_before : Plan → ℕ
+gap_before (Counted left) = 0
+gap_before (Chunked short) = 6
+gap_before ToEnd = 0
+
+abbrev pub gap_behind : Plan → ℕ
+gap_behind (Counted left) = 0
+gap_behind (Chunked short) = 2
+gap_behind ToEnd = 0
+
+-- where such a piece of so many bytes ends with what is behind it, and its data
+abbrev pub frame_end : Plan → ℕ → ℕ
+frame_end plan len = gap_before plan + (len + gap_behind plan)
+
+abbrev pub data_in : Plan → List ℕ → ℕ → List ℕ
+data_in plan buffer len = slice_range buffer (gap_before plan) (gap_before plan + len)
+
+-- how much room is enough for a piece
+abbrev pub piece_room : Plan → List ℕ → ℕ
+piece_room plan bytes = length bytes + (gap_before plan + gap_behind plan)
 
 -- behind the end: nothing more may be written
 abbrev pub written_whole : Plan

@@ -1,5 +1,5 @@
 //! Laws of bodies. Each is a function with an empty body, whose `ensures` is the law.
-ghost use Rattle.gw_body.specs.Laws.{BeginsWritten, BodiesFromFirst, DoneIsWhole, EndsWritten, FaultsFromFirst, GoesOnWritten, NoFaultInBody, OneBody, PiecesMakeText, TakenInTurn, TextIsRead, UndecidedIsNeither, WrittenIsRead};
+ghost use Rattle.gw_body.specs.Laws.{BeginsText, BeginsWritten, BodiesFromFirst, DoneIsWhole, EndsWritten, FaultsFromFirst, GoesOnText, GoesOnWritten, NoFaultInBody, OneBody, PiecesMakeText, TakenInTurn, TakenIsPart, TextIsRead, UndecidedIsNeither, WrittenIsRead};
 
 /// What is said of bodies and of faults from the reader's first place is what is said of whole bodies (RFC 9112,
 /// section 6.3).
@@ -24,9 +24,11 @@ pub fn done_is_whole()
     ensures { DoneIsWhole }
 {}
 
-/// What calls of the reader say of bytes, one after another, is said of all of them.
+/// What calls of the reader say of bytes, one after another, is said of all of them; and where neither the body's end
+/// nor a fault has come, those are a part of the body with the data that was given.
 pub fn taken_in_turn()
-    ensures { TakenInTurn }
+    ensures turn { TakenInTurn }
+    ensures part { TakenIsPart }
 {}
 
 /// What the writer writes is the text of its data, and is read as that data, whatever follows: in chunks of up to 2^62
@@ -37,9 +39,12 @@ pub fn written_is_read()
     ensures alone { TextIsRead }
 {}
 
-/// The same piece by piece: what was written so far and what may follow make the text of all data.
+/// The same piece by piece: what was written so far and what may follow make the text of all data, and it begins the
+/// text of all data that begins so.
 pub fn written_piece_by_piece()
     ensures begins { BeginsWritten }
     ensures goes_on { GoesOnWritten }
     ensures ends { EndsWritten }
+    ensures begins_text { BeginsText }
+    ensures goes_on_text { GoesOnText }
 {}

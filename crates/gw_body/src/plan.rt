@@ -1,7 +1,8 @@
 //! What a writer may still write.
-ghost use Rattle.std.specs.Prelude.{◌≡◌};
-ghost use Rattle.gw_body.specs.Written.{plan_of};
+ghost use Rattle.std.specs.Prelude.{◌≡◌, ◌≤◌, ℕ, List, length};
+ghost use Rattle.gw_body.specs.Written.{behind_piece, plan_of, Accepts};
 
+use gw_chunk::PIECE_LIMIT;
 use gw_head::Framing;
 
 /// What is left to write of a body.
@@ -26,5 +27,20 @@ impl Plan {
             Framing::Chunked => Plan::Chunked { short: false },
             Framing::ToEnd => Plan::ToEnd,
         }
+    }
+
+    /// Goes on behind a piece of so many bytes.
+    pub(crate) fn pass(&mut self, len: usize)
+        ensures { (piece : List ℕ) → length piece ≡ len → Accepts self.old piece → self.new ≡ behind_piece self.old piece }
+    {
+        *self = match *self {
+            Plan::Counted { left } => Plan::Counted {
+                left: left.saturating_sub(len as u64),
+            },
+            Plan::Chunked { .. } => Plan::Chunked {
+                short: len < PIECE_LIMIT,
+            },
+            Plan::ToEnd => Plan::ToEnd,
+        };
     }
 }

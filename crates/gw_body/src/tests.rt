@@ -1,6 +1,6 @@
 //! Bodies of each framing cut at every place, how replies are framed, and what the writer writes.
 use crate::place::{Place, advance};
-use crate::{AtEnd, BodyReader, BodyWriter, reply_framing};
+use crate::{AtEnd, BodyReader, BodyWriter, Rewindable, reply_framing, write_body};
 use gw_chunk::{ChunkError, ChunkFed, ChunkStep, PIECE_LIMIT};
 use gw_fields::Fields;
 use gw_head::{Framing, ReplyHead};
@@ -242,5 +242,47 @@ fn written_plain(rt: HostRuntime) -> Result<(), Fail> {
     let mut empty = Vec::new(alloc);
     BodyWriter::new(Framing::Chunked).end(&mut empty)?;
     assert_eq!(rt; empty.as_slice(), b"0\r\n\r\n".as_slice());
+    Ok(())
+}
+
+#[test]
+fn framed_in_place(rt: HostRuntime) {
+    let mut chunks = BodyWriter::new(Framing::Chunked);
+    let mut buffer = *b"------hello--!";
+    assert_eq!(rt; (chunks.gap_before(), chunks.gap_behind()), (6, 2));
+    assert_eq!(rt; chunks.frame(&mut buffer, 5), 3);
+    assert_eq!(rt; buffer, *b"---5\r\nhello\r\n!");
+    assert_eq!(rt; chunks.finish(), b"0\r\n\r\n".as_slice());
+    let mut counted = BodyWriter::new(Framing::Length(2));
+    let mut two = *b"hi!";
+    assert_eq!(rt; (counted.gap_before(), counted.gap_behind()), (0, 0));
+    assert_eq!(rt; counted.frame(&mut two, 2), 0);
+    assert_eq!(rt; two, *b"hi!");
+    assert_eq!(rt; counted.finish(), b"".as_slice());
+}
+
+#[test]
+fn whole_texts(rt: HostRuntime) -> Result<(), Fail> {
+    let alloc = rt.alloc();
+    let mut out = b"> ".to_vec(alloc)?;
+    write_body(Framing::Length(5), b"hello", &mut out)?;
+    write_body(Framing::None, b"", &mut out)?;
+    write_body(Framing::ToEnd, b"!", &mut out)?;
+    write_body(Framing::Chunked, b"", &mut out)?;
+    assert_eq!(rt; out.as_slice(), b"> hello!0\r\n\r\n".as_slice());
+    let mut chunks = Vec::new(alloc);
+    write_body(Framing::Chunked, &[b'c'; 8_193], &mut chunks)?;
+    assert_eq!(rt; chunks.len(), 8_200 + 6 + 5);
+    assert!(rt; chunks.starts_with(b"2000\r\nc") && chunks.ends_with(b"c\r\n1\r\nc\r\n0\r\n\r\n"));
+    Ok(())
+}
+
+#[test]
+fn kept_bodies(rt: HostRuntime) -> Result<(), Fail> {
+    let kept = Rewindable::new(b"twice".to_vec(rt.alloc())?);
+    assert_eq!(rt;
+        (kept.again(), kept.again()),
+        (b"twice".as_slice(), b"twice".as_slice())
+    );
     Ok(())
 }

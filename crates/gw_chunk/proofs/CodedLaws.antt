@@ -169,6 +169,24 @@ pub cuts_are_coded : (pieces : List (List ℕ)) → AreCut pieces → coded (con
 cuts_are_coded pieces h =
     ap (λ cut. flat_map coded_piece cut ++ coded_end) (cut_again pieces (length (concat pieces)) h (omega arith))
 
+pieces_more : (turns more : ℕ) (d : List ℕ) → length d ≤ turns → turns ≤ more → pieces_within more d ≡ pieces_within turns d
+pieces_more zero zero [] few some = refl
+pieces_more zero (suc more) [] few some = refl
+pieces_more zero more (b ∷ d) few some = absurd (omega arith)
+pieces_more (suc turns) zero d few some = absurd (omega arith)
+pieces_more (suc turns) (suc more) [] few some = refl
+pieces_more (suc turns) (suc more) (b ∷ d) few some =
+    let size = length-drop piece_limit (b ∷ d) in
+    ap (λ l. take piece_limit (b ∷ d) ∷ l) (pieces_more turns more (drop piece_limit (b ∷ d)) (omega arith) (omega arith))
+
+pub coded_front : (d : List ℕ) → 0 < length d → coded d ≡ coded_piece (take piece_limit d) ++ coded (drop piece_limit d)
+coded_front [] some = absurd (omega arith)
+coded_front (b ∷ d) some =
+    let size = length-drop piece_limit (b ∷ d) in
+    ap (λ l. flat_map coded_piece (take piece_limit (b ∷ d) ∷ l) ++ coded_end)
+    (pieces_more (length (drop piece_limit (b ∷ d))) (length d) (drop piece_limit (b ∷ d)) (omega arith) (omega arith))
+    ∙ append_assoc (coded_piece (take piece_limit (b ∷ d))) (flat_map coded_piece (pieces_of (drop piece_limit (b ∷ d)))) coded_end
+
 -- ---- read again
 
 pub coded_is_chunked : (d : List ℕ) → length d ≤ data_limit → IsChunked (coded d) d

@@ -14,8 +14,10 @@ use Rattle.gw_chunk.specs.declared.position.Position.{Position}
 use Rattle.gw_chunk.specs.declared.position.Position.TheVariants.{Line, Content, Fields}
 use Rattle.gw_chunk.specs.Bytes.{crlf}
 use Rattle.gw_chunk.specs.Chunked.{IsChunkLine, IsAllowed, Chunk, IsChunk, AreChunks, text_of, texts_of, contents_of, IsFieldLine, AreFieldLines, IsLast, NoFeed, IsLine, Breaks, data_limit, section_limit, line_limit}
-use Rattle.gw_chunk.specs.Position.{next_line, after, is_undecided, Leads}
+use Rattle.gw_chunk.specs.Part.{Begins}
+use Rattle.gw_chunk.specs.Position.{next_line, after, given, is_undecided, Leads}
 use Rattle.gw_chunk.proofs.Walks.{after-append, leads_data}
+use Rattle.gw_chunk.proofs.Given.{given_then, given_quiet}
 use Rattle.gw_chunk.proofs.LineForms.{run, sized}
 use Rattle.gw_chunk.proofs.FieldForms.{run as run_fields, run_empty, inner_empty}
 use Rattle.gw_chunk.proofs.Feeds.{Cut, short, long, line, cut}
@@ -148,7 +150,8 @@ section_outcome (suc turns) read bytes room enough =
 pub data Outcome (sum : ℕ) (bytes : List ℕ) : Type 0 where
   whole : (last rest : List ℕ) → bytes ≡ last ++ rest → IsLast last → Outcome sum bytes
   broken : (fault rest : List ℕ) (error : ChunkError) → bytes ≡ fault ++ rest → Breaks sum fault error → Outcome sum bytes
-  undecided : Going (next_line sum) bytes → Outcome sum bytes
+  undecided : (content : List ℕ) → Begins sum bytes content → given (next_line sum) bytes ≡ content → Going (next_line sum) bytes
+      → Outcome sum bytes
 
 -- these, or a chunk at the front
 data FirstPart (sum : ℕ) (bytes : List ℕ) : Type 0 where
@@ -188,7 +191,10 @@ behind_last sum head bytes m small text is_line (broke lines last rest more fiel
     })
 behind_last sum head bytes m small text is_line (going still) =
     let G : List ℕ → Type 0 = λ l. Going (next_line sum) l in
-    undecided (subst G (sym text) (going_after (next_line sum) (Fields Begin 0) head [] m (last_line_goes head sum small is_line) still))
+    let led = last_line_goes head sum small is_line in
+    undecided [] (inr (inr (record { line = head; section = m; text = text; is_line = is_line }, refl)))
+    (ap (given (next_line sum)) text ∙ given_then (next_line sum) (Fields Begin 0) head [] m led ∙ given_quiet (Fields Begin 0) m refl)
+    (subst G (sym text) (going_after (next_line sum) (Fields Begin 0) head [] m led still))
 
 is_allowed : (sum size : ℕ) → IsAllowed sum size ⊎ (IsAllowed sum size → ⊥)
 is_allowed sum size =
@@ -200,16 +206,32 @@ is_allowed sum size =
     (λ more. inr (λ h. (let alone = h.alone in omega arith)))
     (cases_lt size (2 ^ 48))
 
--- behind the data
+-- behind the data, and before its end is decided
+content_read : (sum : ℕ) (one : Chunk) (bytes m : List ℕ) → bytes ≡ (one.line ++ one.content) ++ m → IsChunk sum one
+    → ((m ≡ []) × (length one.content ≤ length one.content)) ⊎ ((length m ≡ 1) × (length one.content ≡ length one.content))
+    → given (Content 0 (sum + length one.content)) m ≡ [] → Going (Content 0 (sum + length one.content)) m → Outcome sum bytes
+content_read sum one bytes m text is_chunk cut none still =
+    let G : List ℕ → Type 0 = λ l. Going (next_line sum) l in
+    let at = Content 0 (sum + length one.content) in
+    let led = line_and_content sum one is_chunk in
+    undecided one.content
+    (inr (inl (record {
+      line = one.line;
+      size = length one.content;
+      behind = m;
+      text = text ∙ append_assoc one.line one.content m;
+      is_line = is_chunk.is_line;
+      some = is_chunk.some;
+      is_allowed = is_chunk.is_allowed;
+      cut = cut;
+    })))
+    (ap (given (next_line sum)) text ∙ given_then (next_line sum) at (one.line ++ one.content) one.content m led
+    ∙ ap (λ l. one.content ++ l) none ∙ append-nil one.content)
+    (subst G (sym text) (going_after (next_line sum) at (one.line ++ one.content) one.content m led still))
+
 behind_content : (sum : ℕ) (one : Chunk) (bytes m : List ℕ) → bytes ≡ (one.line ++ one.content) ++ m → IsChunk sum one → FirstPart sum bytes
-behind_content sum one bytes [] text is_chunk =
-    let G : List ℕ → Type 0 = λ l. Going (next_line sum) l in
-    no_chunk (undecided (subst G (sym text) (going_after (next_line sum) (Content 0 (sum + length one.content)) (one.line ++ one.content) one.content []
-    (line_and_content sum one is_chunk) refl)))
-behind_content sum one bytes (x ∷ []) text is_chunk =
-    let G : List ℕ → Type 0 = λ l. Going (next_line sum) l in
-    no_chunk (undecided (subst G (sym text) (going_after (next_line sum) (Content 0 (sum + length one.content)) (one.line ++ one.content) one.content (x ∷ [])
-    (line_and_content sum one is_chunk) refl)))
+behind_content sum one bytes [] text is_chunk = no_chunk (content_read sum one bytes [] text is_chunk (inl (refl, omega arith)) refl refl)
+behind_content sum one bytes (x ∷ []) text is_chunk = no_chunk (content_read sum one bytes (x ∷ []) text is_chunk (inr (refl, refl)) refl refl)
 behind_content sum one bytes (x ∷ y ∷ m) text is_chunk =
     let broken_by : (x ∷ y ∷ [] ≡ crlf → ⊥) → FirstPart sum bytes =
     λ other. no_chunk (broken (one.line ++ (one.content ++ x ∷ y ∷ [])) m DataEnd
@@ -236,8 +258,21 @@ behind_good sum size head bytes m text is_line some allowed =
     (λ few. (let G : List ℕ → Type 0 = λ l. Going (next_line sum) l in
     let L : Position → Type 0 = λ q. Leads (next_line sum) head [] q in
     let led = subst L (behind_allowed size sum some allowed) (line_goes head size sum is_line) in
-    no_chunk (undecided (subst G (sym text) (going_after (next_line sum) (Content size (sum + size)) head [] m led
-    (going_led (Content size (sum + size)) (Content (size - length m) (sum + size)) m m (leads_data m size (sum + size) (omega arith)) refl))))))
+    let content = leads_data m size (sum + size) (omega arith) in
+    no_chunk (undecided m
+    (inr (inl (record {
+      line = head;
+      size = size;
+      behind = [];
+      text = text ∙ ap (λ l. head ++ l) (sym (append-nil m));
+      is_line = is_line;
+      some = some;
+      is_allowed = allowed;
+      cut = inl (refl, omega arith);
+    })))
+    (ap (given (next_line sum)) text ∙ given_then (next_line sum) (Content size (sum + size)) head [] m led ∙ content.out)
+    (subst G (sym text) (going_after (next_line sum) (Content size (sum + size)) head [] m led
+    (going_led (Content size (sum + size)) (Content (size - length m) (sum + size)) m m content refl))))))
     (λ enough. (let content = take size m in
     let long : length content ≡ size = length-take-le size m enough in
     let I : ℕ → Type 0 = λ n. IsChunkLine head n in
@@ -283,8 +318,9 @@ by_form sum inner bytes m Broken small text none less is = bad_form sum inner by
 
 first_by : (sum : ℕ) (bytes : List ℕ) → sum ≤ data_limit → Cut line_limit bytes → FirstPart sum bytes
 first_by sum bytes small (short none less) =
-    no_chunk (undecided (going_led (next_line sum) (Line (run Empty bytes) (0 + length bytes) (sized Empty 0 bytes) sum) bytes []
-    (line_run bytes Empty 0 0 sum none (omega arith)) refl))
+    let led = line_run bytes Empty 0 0 sum none (omega arith) in
+    no_chunk (undecided [] (inl (none, refl)) led.out
+    (going_led (next_line sum) (Line (run Empty bytes) (0 + length bytes) (sized Empty 0 bytes) sum) bytes [] led refl))
 first_by sum bytes small (long front rest text none many) = no_chunk (broken front rest LineTooLong text (none, many))
 first_by sum bytes small (line inner rest text none less) = by_form sum inner bytes rest (run Empty inner) small text none less refl
 

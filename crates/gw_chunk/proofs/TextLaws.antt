@@ -15,7 +15,7 @@ use Rattle.gw_chunk.proofs.Faults.{Strikes, strikes, strikes_after, strikes_fail
 use Rattle.gw_chunk.proofs.Parsing.{Outcome, whole, broken, undecided, Going, Parsed, parsed}
 
 -- chunks and the end
-texts_end : (chunks : List Chunk) (last : List ℕ) → AreChunks 0 chunks → IsLast last → Has first (texts_of chunks ++ last) (contents_of chunks)
+pub texts_end : (chunks : List Chunk) (last : List ℕ) → AreChunks 0 chunks → IsLast last → Has first (texts_of chunks ++ last) (contents_of chunks)
 texts_end chunks last good is_last =
     let sum = 0 + length (contents_of chunks) in
     let L : List ℕ → Type 0 = λ d. Has first (texts_of chunks ++ last) d in
@@ -60,10 +60,10 @@ bad_fails bytes error h =
 
 -- ---- and back
 
-regroup : (a b c : List ℕ) (bytes rest : List ℕ) → bytes ≡ a ++ rest → rest ≡ b ++ c → bytes ≡ (a ++ b) ++ c
+pub regroup : (a b c : List ℕ) (bytes rest : List ℕ) → bytes ≡ a ++ rest → rest ≡ b ++ c → bytes ≡ (a ++ b) ++ c
 regroup a b c bytes rest h k = h ∙ ap (λ r. a ++ r) k ∙ sym (append_assoc a b c)
 
-parsed_bad : (bytes : List ℕ) (found : Parsed 0 bytes) (fault rest : List ℕ) (error : ChunkError) → found.rest ≡ fault ++ rest
+pub parsed_bad : (bytes : List ℕ) (found : Parsed 0 bytes) (fault rest : List ℕ) (error : ChunkError) → found.rest ≡ fault ++ rest
     → Breaks found.total fault error → BadChunk bytes error
 parsed_bad bytes found fault rest error text breaks =
     let sums = found.is_total in
@@ -109,7 +109,7 @@ has_by bytes d found (broken fault rest error text breaks) h =
     let fails = bad_fails bytes error bad in
     let place = h.place in
     absurd (cc)
-has_by bytes d found (undecided going) h =
+has_by bytes d found (undecided content begins out going) h =
     let still = going_behind found.chunks bytes found.rest found.total found.are_chunks found.text found.is_total going in
     let ended = ap is_undecided h.place in
     absurd (cc)
@@ -134,7 +134,7 @@ fails_by bytes error found (broken fault rest other text breaks) h =
     let same : other ≡ error = cc in
     let B : ChunkError → Type 0 = λ e. BadChunk bytes e in
     subst B same bad
-fails_by bytes error found (undecided going) h =
+fails_by bytes error found (undecided content begins out going) h =
     let still = going_behind found.chunks bytes found.rest found.total found.are_chunks found.text found.is_total going in
     let refused = ap is_undecided h in
     absurd (cc)

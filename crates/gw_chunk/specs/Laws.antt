@@ -1,10 +1,11 @@
 -- Laws of chunked texts.
-use Rattle.std.specs.Prelude.{◌≡◌, ℕ, ◌<◌, ◌≤◌, ◌↔◌, List, [], ◌∷◌, ◌++◌, length, true}
+use Rattle.std.specs.Prelude.{◌≡◌, ℕ, ◌<◌, ◌≤◌, ◌↔◌, List, [], ◌∷◌, ◌++◌, length, take, drop, true}
 use Rattle.std.specs.List.{concat, flat_map}
 use Rattle.gw_chunk.specs.declared.error.ChunkError.{ChunkError}
 use Rattle.gw_chunk.specs.declared.position.Position.{Position}
 use Rattle.gw_chunk.specs.Chunked.{IsChunked, BreaksAtEnd, BadChunk, data_limit, piece_limit, coded_piece, coded_end, coded}
-use Rattle.gw_chunk.specs.Position.{first, is_undecided, after, Has, Fails}
+use Rattle.gw_chunk.specs.Part.{IsPart}
+use Rattle.gw_chunk.specs.Position.{first, is_undecided, after, given, Has, Fails}
 
 -- the grammar's texts and their data are those from the first position
 abbrev pub TextsFromFirst : Type 0
@@ -20,6 +21,10 @@ UndecidedIsNeither =
     (p : Position) (bytes : List ℕ)
     → (is_undecided (after p bytes) ≡ true)
     ↔ (((front more d : List ℕ) → bytes ≡ front ++ more → Has p front d → ⊥) × ((error : ChunkError) → Fails p bytes error → ⊥))
+
+-- the parts of a text and their data are those that leave the first position undecided
+abbrev pub PartsFromFirst : Type 0
+PartsFromFirst = (bytes d : List ℕ) → IsPart bytes d ↔ ((is_undecided (after first bytes) ≡ true) × (given first bytes ≡ d))
 
 -- no text is the front of another, and a text has one data
 abbrev pub NoTextBeginsAnother : Type 0
@@ -55,6 +60,10 @@ AreCut (piece ∷ next ∷ pieces) = (length piece ≡ piece_limit) × AreCut (n
 -- the text of data is what is written of such pieces of it
 abbrev pub CutsAreCoded : Type 0
 CutsAreCoded = (pieces : List (List ℕ)) → AreCut pieces → coded (concat pieces) ≡ flat_map coded_piece pieces ++ coded_end
+
+-- it begins with a chunk of its first piece, and goes on with the text of the rest
+abbrev pub CodedGoesOn : Type 0
+CodedGoesOn = (d : List ℕ) → 0 < length d → coded d ≡ coded_piece (take piece_limit d) ++ coded (drop piece_limit d)
 
 -- the encoder's text of data, up to the limit, is a text with that data; and whatever follows it, no other text
 -- stands at the front

@@ -4,4 +4,5 @@ pub mod ErrorText
 pub mod Fed
 pub mod Laws
 pub mod Lines
+pub mod Part
 pub mod Position

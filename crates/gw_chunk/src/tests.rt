@@ -1,9 +1,12 @@
 //! Texts cut in different ways, the byte at which each fault is answered, and what the encoder writes.
-ghost use Rattle.std.specs.Prelude.{◌<◌};
+ghost use Rattle.std.specs.Prelude.{◌<◌, ◌≤◌};
 
 use crate::lines::LineForm;
 use crate::position::Position;
-use crate::{ChunkError, ChunkFed, ChunkStep, Decoder, PIECE_LIMIT, encode_end, encode_piece};
+use crate::{
+    ChunkError, ChunkFed, ChunkStep, Decoder, PIECE_LIMIT, encode_end, encode_piece, end_text,
+    frame_piece,
+};
 use std::alloc::{AllocError, Global};
 use std::test::Fail;
 
@@ -263,6 +266,36 @@ fn sizes_of_20000_bytes(rt: HostRuntime) -> Result<(), Fail> {
     assert_eq!(rt; read.as_slice(), data.as_slice());
     assert_eq!(rt; used, 20_028);
     assert_eq!(rt; step, ChunkStep::Done);
+    Ok(())
+}
+
+// A piece of so many `x` between bytes that stay, framed in place: the buffer then.
+fn framed(alloc: Global, len: usize) -> Result<(Vec<u8>, usize), AllocError>
+    requires some { 0 < len }
+    requires most { len ≤ 8192 }
+{
+    let mut buffer = vec![in alloc; b'-'; 6 + len + 3]?;
+    for byte in &mut buffer[6..6 + len] {
+        *byte = b'x';
+    }
+    let start = frame_piece(&mut buffer, len);
+    Ok((buffer, start))
+}
+
+#[test]
+fn framed_in_place(rt: HostRuntime) -> Result<(), Fail> {
+    let alloc = rt.alloc();
+    let (one, start) = framed(alloc, 1)?;
+    assert_eq!(rt; (one.as_slice(), start), (b"---1\r\nx\r\n-".as_slice(), 3));
+    let (ten, start) = framed(alloc, 10)?;
+    assert_eq!(rt;
+        (ten.as_slice(), start),
+        (b"---a\r\nxxxxxxxxxx\r\n-".as_slice(), 3)
+    );
+    let (whole, start) = framed(alloc, PIECE_LIMIT)?;
+    assert_eq!(rt; (whole.len(), start), (8_201, 0));
+    assert!(rt; whole.starts_with(b"2000\r\nx") && whole.ends_with(b"x\r\n-"));
+    assert_eq!(rt; end_text(), b"0\r\n\r\n".as_slice());
     Ok(())
 }
 

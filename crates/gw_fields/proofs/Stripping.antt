@@ -1,8 +1,9 @@
 -- Fields that are stripped in place.
-use Rattle.std.proofs.Common.{◌≡◌, ℕ, ◌+◌, ◌<◌, ◌≤◌, Bool, true, false, not, ◌||◌, List, length, get_or, take, map, refl, sym, ap, ◌∙◌, arith}
-use Rattle.std.specs.List.{swap, SwappedAt}
+use Rattle.std.proofs.Common.{◌≡◌, ℕ, ◌+◌, ◌<◌, ◌≤◌, Bool, true, false, not, ◌||◌, List, [], length, get_or, take, map, refl, sym, ap, ◌∙◌, arith, ⊎_elim}
+use Rattle.std.specs.List.{HoldsAt, swap, SwappedAt}
 use Rattle.std.specs.List.Sorted.{IsPermutation}
-use Rattle.std.proofs.lemmas.List.{get_or-map, length-map, take-map}
+use Rattle.std.proofs.lemmas.List.{get_or-drop, get_or-map, get_or-take, get_or_default, length-map, length-take, take-map}
+use Rattle.std.proofs.lemmas.Bool.{cases_lt}
 use Rattle.std.proofs.lemmas.List.Edits.{swap_is, swapped_from_swap}
 use Rattle.std.proofs.lemmas.List.Filters.{FiltersInPlace, FiltersInPlace-all, FiltersInPlace-more_no, FiltersInPlace-more_swap}
 use Rattle.std.proofs.lemmas.List.Sorted.{IsPermutation-refl, IsPermutation-swap, IsPermutation-trans, list_any-IsPermutation}
@@ -12,10 +13,10 @@ use Rattle.gw_fields.specs.Fields.{names_token, pair_of}
 use Rattle.gw_fields.specs.Hops.{is_hop, is_hop_name, without_hops}
 use Rattle.gw_fields.proofs.Mapping.{swap_mapped}
 
-abbrev Field : Type 0
+abbrev pub Field : Type 0
 Field = List ℕ × List ℕ
 
-abbrev Item : Type 0
+abbrev pub Item : Type 0
 Item = List ℕ × FieldValue
 
 -- of the fields walked those that stay stand first, and all are still there
@@ -85,7 +86,58 @@ is_within xs ys items kept i end so_far shows is less =
 pub as_many : (items : List Item) (ys : List Field) (many : ℕ) → map pair_of items ≡ ys → many ≡ length items → many ≡ length ys
 as_many items ys many shows is = omega (arith, ap length shows, length-map items pair_of)
 
--- what was asked of the fields and of the name, said of what they show
-pub asked : (ys zs : List Field) (name other : List ℕ) (answer b : Bool) → zs ≡ ys → other ≡ name → answer ≡ is_hop ys other
-    → answer ≡ b → is_hop zs name ≡ b
-asked ys zs name other answer b e f h k = (λ t. is_hop (e t) (sym f t)) ∙ sym h ∙ k
+-- ---- what is known of a field
+
+-- the field at the place is the one that stood there
+same_there : (xs ys : List Field) (kept i : ℕ) (d : Field) → Strips xs ys kept i → get_or xs i d ≡ get_or ys i d
+same_there xs ys kept i d so_far =
+    let same : i + 0 ≡ i = omega arith in
+    ap (λ n. get_or xs n d) (sym same) ∙ sym (get_or-drop i xs 0 d) ∙ ap (λ l. get_or l 0 d) (sym so_far.filters.rest)
+    ∙ get_or-drop i ys 0 d ∙ ap (λ n. get_or ys n d) same
+
+-- what is known of the first fields
+abbrev pub AreKnown : List Bool → List Field → Type 0
+AreKnown hops xs = hops ≡ map (λ field. is_hop xs field.0) (take 128 xs)
+
+table_says : (xs ys : List Field) (hops : List Bool) (kept i : ℕ) (d : Field) → Strips xs ys kept i → AreKnown hops xs → i < length hops
+    → get_or hops i false ≡ is_hop xs (get_or ys i d).0
+table_says xs ys hops kept i d so_far known within =
+    let f : Field → Bool = λ field. is_hop xs field.0 in
+    let long : length hops ≡ length (take 128 xs) = ap length known ∙ length-map (take 128 xs) f in
+    let few : length (take 128 xs) ≤ 128 = omega (arith, length-take 128 xs) in
+    ap (λ l. get_or l i false) known
+    ∙ get_or-map f (take 128 xs) i d false (omega arith)
+    ∙ ap f (get_or-take 128 xs i d (omega arith) ∙ same_there xs ys kept i d so_far)
+
+answered : (xs ys : List Field) (hops : List Bool) (kept i : ℕ) (d : Field) (answer : Bool) → Strips xs ys kept i → AreKnown hops xs
+    → (i < length hops → answer ≡ get_or hops i false) → (length hops ≤ i → HoldsAt (λ field. answer ≡ is_hop ys field.0) ys i)
+    → is_hop ys (get_or ys i d).0 ≡ answer
+answered xs ys hops kept i d answer so_far known table asked =
+    ⊎_elim
+    (λ within. same_hop xs ys (get_or ys i d).0 so_far.same ∙ sym (table within ∙ table_says xs ys hops kept i d so_far known within))
+    (λ past. sym (asked past d))
+    (cases_lt i (length hops))
+
+nothing : Item
+nothing = record { 0 = []; 1 = record { bytes = []; is_sensitive = false } }
+
+pub walked_past : (xs : List Field) (items : List Item) (hops : List Bool) (kept i : ℕ) (answer : Bool) → Strips xs (map pair_of items) kept i
+    → i < length items → AreKnown hops xs → (i < length hops → answer ≡ get_or hops i false)
+    → (length hops ≤ i → HoldsAt (λ field. answer ≡ is_hop (map pair_of items) field.0) (map pair_of items) i) → answer ≡ true
+    → Strips xs (map pair_of items) kept (i + 1)
+walked_past xs items hops kept i answer so_far within known table asked is =
+    let item : Item = get_or items i nothing in
+    one_stripped xs items kept i item so_far within (get_or_default items i nothing item within)
+    (ap (λ (field : Field). is_hop (map pair_of items) field.0) (sym (get_or-map pair_of items i nothing (pair_of nothing) within))
+    ∙ answered xs (map pair_of items) hops kept i (pair_of nothing) answer so_far known table asked ∙ is)
+
+pub walked_kept : (xs : List Field) (items after : List Item) (hops : List Bool) (kept i : ℕ) (answer : Bool) → Strips xs (map pair_of items) kept i
+    → i < length items → AreKnown hops xs → (i < length hops → answer ≡ get_or hops i false)
+    → (length hops ≤ i → HoldsAt (λ field. answer ≡ is_hop (map pair_of items) field.0) (map pair_of items) i) → answer ≡ false
+    → after ≡ swap items kept i → Strips xs (map pair_of after) (kept + 1) (i + 1)
+walked_kept xs items after hops kept i answer so_far within known table asked is swapped =
+    let item : Item = get_or items i nothing in
+    one_kept xs items after kept i item so_far within (get_or_default items i nothing item within)
+    (ap (λ (field : Field). is_hop (map pair_of items) field.0) (sym (get_or-map pair_of items i nothing (pair_of nothing) within))
+    ∙ answered xs (map pair_of items) hops kept i (pair_of nothing) answer so_far known table asked ∙ is)
+    swapped

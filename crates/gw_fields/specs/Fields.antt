@@ -1,5 +1,5 @@
 -- The fields of a message, as pairs of a name and a value (RFC 9110, section 5).
-use Rattle.std.specs.Prelude.{ℕ, Bool, ◌&&◌, List, count_by}
+use Rattle.std.specs.Prelude.{ℕ, Bool, ◌&&◌, List}
 use Rattle.std.specs.List.{list_any}
 use Rattle.std.specs.Str.{str_eq_ignore_ascii_case}
 use Rattle.http_header.specs.FieldValue.{FieldValue}
@@ -12,10 +12,6 @@ pair_of field = (field.0, field.1.bytes)
 -- the field has that name, without case
 abbrev pub is_named : List ℕ → List ℕ × List ℕ → Bool
 is_named name field = str_eq_ignore_ascii_case field.0 name
-
--- how many fields have that name
-abbrev pub count_named : List ℕ → List (List ℕ × List ℕ) → ℕ
-count_named name fields = count_by (is_named name) fields
 
 -- the field has that name, and its value lists the token
 abbrev pub names_token : List ℕ → List ℕ → List ℕ × List ℕ → Bool

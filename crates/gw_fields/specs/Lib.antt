@@ -3,4 +3,5 @@ pub mod Hops
 pub mod Laws
 pub mod Lines
 pub mod Lists
+pub mod Names
 pub mod Order

@@ -1,6 +1,7 @@
 -- The order and the spelling of fields that are sent.
-use Rattle.std.specs.Prelude.{ℕ, Bool, true, List, [], ◌∷◌, ◌++◌, codes, flat_map, ◌==◌, if◌then◌else◌}
+use Rattle.std.specs.Prelude.{◌≡◌, ℕ, Bool, true, List, [], ◌∷◌, ◌++◌, codes, flat_map, ◌==◌, if◌then◌else◌}
 use Rattle.std.specs.Char.{to_ascii_uppercase}
+use Rattle.std.specs.Str.{str_to_ascii_lowercase}
 use Rattle.std.specs.Cmp.Lexicographic.{slice_cmp}
 use Rattle.std.specs.Ordering.{is_lt, nat_cmp}
 
@@ -18,6 +19,10 @@ placed field (next ∷ fields) =
 abbrev pub sorted : List (List ℕ × List ℕ) → List (List ℕ × List ℕ)
 sorted [] = []
 sorted (field ∷ fields) = placed field (sorted fields)
+
+-- no letter of the name is in upper case
+abbrev pub IsLowerCase : List ℕ → Type 0
+IsLowerCase name = str_to_ascii_lowercase name ≡ name
 
 -- the name with its first letter and each letter behind a '-' in upper case; `starts` says whether it is at such a place
 abbrev pub spelled_from : Bool → List ℕ → List ℕ

@@ -1,18 +1,19 @@
 //! The list of fields.
-ghost use Rattle.std.specs.Prelude.{◌≡◌, ◌≤◌, [], ◌∷◌, ◌++◌, length, MatchOption, IfOk, OnOk, OnErr, Some, slice_get, ◌==◌};
+ghost use Rattle.std.specs.Prelude.{◌≡◌, ◌≤◌, ◌<◌, [], ◌∷◌, ◌++◌, false, length, map, take, slice_index_or, MatchOption, IfOk, OnOk, OnErr, Some, slice_get, ◌==◌};
 ghost use Rattle.std.specs.Str.{str_eq_ignore_ascii_case};
-ghost use Rattle.gw_fields.specs.Fields.{count_named, has_token, names_token};
-ghost use Rattle.gw_fields.specs.Hops.{is_hop, is_hop_name, without_hops};
+ghost use Rattle.gw_fields.specs.Fields.{has_token, names_token, pair_of};
+ghost use Rattle.gw_fields.specs.Hops.{is_hop, without_hops};
+ghost use Rattle.std.specs.List.{HoldsAt};
 ghost use Rattle.gw_fields.specs.Order.{lines_of, sorted};
 
+use crate::error::NoMemory;
+use crate::hops::{TABLE_LEN, first_hops, is_hop, is_hop_among, listed_names, sort_names};
 use crate::lines::Lines;
 use crate::lists::lists_token;
+use arrayvec::ArrayVec;
 use http_header::{HeaderName, HeaderValue};
 use std::alloc::Global;
 use std::marker::Model;
-
-/// The want of memory.
-pub type NoMemory = std::alloc::AllocError;
 
 /// Fields in the order in which they came. Contracts see the list of their names, which are in lower case, and
 /// values.
@@ -81,45 +82,39 @@ impl Fields {
         Some((name, value))
     }
 
-    /// How many fields have that name, without case. It takes no memory.
-    pub fn count_named(&self, name: &[u8]) -> usize
-        ensures { result ≡ count_named name.now self.now }
-    {
-        self.items
-            .iter()
-            .filter(|field| is_named(&field.0, name))
-            .count()
-    }
-
     /// Whether a field of that name lists the token (RFC 9110, section 5.6.1): the value is split at commas, and
     /// spaces and tabs around an element don't count. Name and token are compared without case. It takes no memory.
     pub fn has_token(&self, name: &[u8], token: &[u8]) -> bool
         ensures { result ≡ has_token name.now token.now self.now }
     {
-        for (own, value) in &self.items {
-            if names_token(own, value, name, token) {
-                return true;
-            }
-        }
-        false
+        has_token(&self.items, name, token)
     }
 
-    /// Whether fields of that name belong to this connection alone (RFC 9110, section 7.6.1): it is a name that always
-    /// says so, or a `Connection` field lists it. The name is compared without case. It takes no memory.
-    pub fn is_hop(&self, name: &[u8]) -> bool
-        ensures { result ≡ is_hop self.now name.now }
-    {
-        is_hop_name(name) || self.has_token(b"connection", name)
-    }
-
-    /// Removes the fields that belong to this connection alone; the others stay in their order. It takes no memory.
+    /// Removes the fields that belong to this connection alone (RFC 9110, section 7.6.1): those with a name that always
+    /// says so, and those that a `Connection` field lists; the others stay in their order. It takes no memory.
     pub fn strip_hops(&mut self)
+        ensures { self.new ≡ without_hops self.old }
+    {
+        let hops = self.first_hops();
+        self.keep_others(&hops);
+    }
+
+    // For each of the fields, up to the first 128, whether it belongs to this connection alone.
+    fn first_hops(&self) -> ArrayVec<bool, TABLE_LEN>
+        ensures { result.items ≡ map (λ field. is_hop self.now field.0) (take TABLE_LEN self.now) }
+    {
+        first_hops(&self.items)
+    }
+
+    // Removes the fields that belong to this connection alone, by what is known of the first ones.
+    fn keep_others(&mut self, hops: &[bool])
+        requires { hops.now ≡ map (λ field. is_hop self.old field.0) (take TABLE_LEN self.old) }
         ensures { self.new ≡ without_hops self.old }
     {
         // What is passed over stays behind the kept ones until the end, since a `Connection` among it is still asked.
         let mut kept = 0;
         for i in 0..self.items.len() {
-            if !self.is_hop(self.items[i].0.as_bytes()) {
+            if !self.is_hop_at(hops, i) {
                 self.items.swap(kept, i);
                 kept += 1;
             }
@@ -127,11 +122,24 @@ impl Fields {
         self.items.truncate(kept);
     }
 
+    // What is known of the field at `i`, or else whether it belongs to this connection alone.
+    fn is_hop_at(&self, hops: &[bool], i: usize) -> bool
+        requires { i < length self.now }
+        ensures known { i < length hops.now → result ≡ slice_index_or hops.now i false }
+        ensures asked { length hops.now ≤ i → HoldsAt (λ field. result ≡ is_hop self.now field.0) self.now i }
+    {
+        if i < hops.len() {
+            hops[i]
+        } else {
+            is_hop(&self.items, self.items[i].0.as_bytes())
+        }
+    }
+
     /// The lines of all fields in their order.
     pub fn lines(&self, alloc: Global) -> Result<Lines<'_>, NoMemory>
         ensures { IfOk result (λ lines. lines ≡ self.now) }
     {
-        let mut lines = Lines::new(alloc);
+        let mut lines = Lines::with_capacity(alloc, self.items.len())?;
         for (name, value) in &self.items {
             lines.push(name.as_bytes(), value.as_bytes())?;
         }
@@ -142,9 +150,14 @@ impl Fields {
     pub fn lines_without_hops(&self, alloc: Global) -> Result<Lines<'_>, NoMemory>
         ensures { IfOk result (λ lines. lines ≡ without_hops self.now) }
     {
-        let mut lines = Lines::new(alloc);
+        let first = &self.items[..self.items.len().min(TABLE_LEN)];
+        let mut table: [&[u8]; TABLE_LEN] = [b""; TABLE_LEN];
+        let names = &mut table[..first.len()];
+        sort_names(first, names);
+        let listed = listed_names(names, &self.items);
+        let mut lines = Lines::with_capacity(alloc, self.items.len())?;
         for (name, value) in &self.items {
-            if !self.is_hop(name.as_bytes()) {
+            if !is_hop_among(names, &listed, &self.items, name.as_bytes()) {
                 lines.push(name.as_bytes(), value.as_bytes())?;
             }
         }
@@ -164,26 +177,23 @@ impl Fields {
     }
 }
 
+/// Whether one of the fields has that name and lists the token.
+pub(crate) fn has_token(items: &[(HeaderName, HeaderValue)], name: &[u8], token: &[u8]) -> bool
+    ensures { result ≡ has_token name.now token.now (map pair_of items.now) }
+{
+    for (own, value) in items {
+        if names_token(own, value, name, token) {
+            return true;
+        }
+    }
+    false
+}
+
 // Whether the field has that name, without case.
 fn is_named(own: &HeaderName, name: &[u8]) -> bool
     ensures { result ≡ str_eq_ignore_ascii_case own.now name.now }
 {
     own.as_bytes().eq_ignore_ascii_case(name)
-}
-
-// Whether the name always belongs to one connection.
-fn is_hop_name(name: &[u8]) -> bool
-    ensures { result ≡ is_hop_name name.now }
-{
-    name.eq_ignore_ascii_case(b"connection")
-        || name.eq_ignore_ascii_case(b"proxy-connection")
-        || name.eq_ignore_ascii_case(b"keep-alive")
-        || name.eq_ignore_ascii_case(b"proxy-authenticate")
-        || name.eq_ignore_ascii_case(b"proxy-authorization")
-        || name.eq_ignore_ascii_case(b"te")
-        || name.eq_ignore_ascii_case(b"trailer")
-        || name.eq_ignore_ascii_case(b"transfer-encoding")
-        || name.eq_ignore_ascii_case(b"upgrade")
 }
 
 // Whether the field has that name, and its value lists the token.

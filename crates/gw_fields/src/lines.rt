@@ -1,10 +1,10 @@
 //! Field lines that are about to be sent.
-ghost use Rattle.std.specs.Prelude.{◌≡◌, ◌∷◌, [], ◌++◌, ◌^◌, ◌-◌, filter, length, min, not, OnOk, OnErr};
+ghost use Rattle.std.specs.Prelude.{◌≡◌, ◌∷◌, [], ◌++◌, ◌^◌, ◌-◌, filter, length, min, not, IfOk, OnOk, OnErr};
 ghost use Rattle.gw_fields.specs.Fields.{is_named};
 ghost use Rattle.gw_fields.specs.Lines.{has_field, listed, pair_of, values_text, StartsWith};
-ghost use Rattle.gw_fields.specs.Order.{line_of, lines_of, sorted, spelled};
+ghost use Rattle.gw_fields.specs.Order.{line_of, lines_of, sorted, spelled, IsLowerCase};
 
-use crate::fields::NoMemory;
+use crate::error::NoMemory;
 use std::alloc::{AllocError, Global};
 use std::marker::Model;
 
@@ -43,8 +43,18 @@ impl<'a> Lines<'a> {
         }
     }
 
+    /// No lines, with room for so many.
+    pub fn with_capacity(alloc: Global, count: usize) -> Result<Lines<'a>, NoMemory>
+        ensures { IfOk result (λ lines. lines ≡ []) }
+    {
+        Ok(Lines {
+            lines: Vec::with_capacity(alloc, count)?,
+        })
+    }
+
     /// Adds a line behind the others. The name is in lower case. Where there is no memory, nothing is added.
     pub fn push(&mut self, name: &'a [u8], value: &'a [u8]) -> Result<(), NoMemory>
+        requires { IsLowerCase name.now }
         ensures ok { OnOk result (self.new ≡ self.old ++ (name.now, value.now) ∷ []) }
         ensures err { OnErr result (self.new ≡ self.old) }
     {

@@ -2,6 +2,8 @@
 ghost use Rattle.std.specs.Prelude.{◌≡◌, ◌<◌, IfSome, length, position, reverse};
 ghost use Rattle.gw_fields.specs.Lists.{is_blank, skip_blanks, trimmed, is_comma, is_element, lists_token, SplitsElement};
 
+use memchr::memchr;
+
 /// Whether some element of the value is the token, without case.
 pub(crate) fn lists_token(value: &[u8], token: &[u8]) -> bool
     ensures { result ≡ lists_token token.now value.now }
@@ -19,8 +21,8 @@ pub(crate) fn lists_token(value: &[u8], token: &[u8]) -> bool
     }
 }
 
-// The first element, and what stands after its comma.
-fn split_element(value: &[u8]) -> (&[u8], Option<&[u8]>)
+/// The first element, and what stands after its comma.
+pub(crate) fn split_element(value: &[u8]) -> (&[u8], Option<&[u8]>)
     ensures { SplitsElement value.now result.0.now result.1 }
 {
     match place_of_comma(value) {
@@ -33,7 +35,7 @@ fn place_of_comma(bytes: &[u8]) -> Option<usize>
     ensures place { result ≡ position is_comma bytes.now }
     ensures within { IfSome result (λ at. at < length bytes.now) }
 {
-    bytes.iter().position(|b| *b == b',')
+    memchr(b',', bytes)
 }
 
 // Whether the element is the token, but for case and the blanks around it.
@@ -43,7 +45,8 @@ fn is_element(element: &[u8], token: &[u8]) -> bool
     trim(element).eq_ignore_ascii_case(token)
 }
 
-fn trim(bytes: &[u8]) -> &[u8]
+/// The bytes without the blanks at both ends.
+pub(crate) fn trim(bytes: &[u8]) -> &[u8]
     ensures { result.now ≡ trimmed bytes.now }
 {
     trim_end(trim_start(bytes))

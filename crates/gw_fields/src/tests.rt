@@ -160,6 +160,29 @@ fn hops_are_stripped(rt: HostRuntime) -> Result<(), Fail> {
     Ok(())
 }
 
+// Fields that are listed stand before the 128th and behind it, and one name stands twice.
+#[test]
+fn hops_of_many_fields(rt: HostRuntime) -> Result<(), Fail> {
+    let alloc = rt.alloc();
+    let mut fields = fields_of(alloc, &[("Connection", "X-7, y,x-139"), ("X-7", "a")])?;
+    for i in 0..140 {
+        let name = format!(in alloc; "x-{i}")?;
+        fields.push(
+            HeaderName::from_bytes(alloc, name.as_bytes())?,
+            HeaderValue::from_bytes(alloc, b"b")?,
+        )?;
+    }
+    let mut text = Vec::new(alloc);
+    fields.lines_without_hops(alloc)?.write(&mut text)?;
+    assert!(rt; text.starts_with(b"X-0: b\r\nX-1: b\r\n") && text.ends_with(b"X-138: b\r\n"));
+    fields.strip_hops();
+    assert_eq!(rt; fields.len(), 138);
+    let mut left = Vec::new(alloc);
+    fields.lines(alloc)?.write(&mut left)?;
+    assert_eq!(rt; left, text);
+    Ok(())
+}
+
 const ROW: &[(&str, &str)] = &[("x-b", "2"), ("A", "1"), ("X-B", "1")];
 
 // `_` and digits stand before the letters of lower case, `-` before both, and a name before a longer one.

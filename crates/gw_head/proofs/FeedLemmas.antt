@@ -1,5 +1,5 @@
 -- What a caller learns of a piece that it fed, by the step; and why the reader's answers are right.
-use Rattle.std.proofs.Common.{◌≡◌, ℕ, List, ◌++◌, take, subst, sym, ap, ◌∙◌, inl, inr}
+use Rattle.std.proofs.Common.{◌≡◌, ℕ, List, ◌++◌, take, subst, sym, ap, ◌∙◌, inl}
 use Rattle.std.specs.Prelude.{Result, Ok, Err}
 use Rattle.gw_head.specs.declared.error.HeadError.{HeadError}
 use Rattle.gw_head.specs.declared.error.Refusal.{Refusal}

@@ -1,5 +1,5 @@
 -- What the parser's answer says of a whole head.
-use Rattle.std.proofs.Common.{◌≡◌, ℕ, ◌≤◌, List, [], length, sym, ap, ◌∙◌, subst, arith, refl, ◌∷◌, ◌++◌, length-append}
+use Rattle.std.proofs.Common.{◌≡◌, ℕ, List, [], length, sym, ap, ◌∙◌, arith, refl, ◌∷◌, ◌++◌, length-append}
 use Rattle.std.specs.Prelude.{Some}
 use Rattle.std.proofs.lemmas.Option.{same_Some}
 use Rattle.httparse.specs.Grammar.{RequestHead as RequestParts, print_request, ReadsRequest, ResponseHead as ReplyParts, print_response, ReadsResponse}

@@ -6,7 +6,8 @@ use Rattle.gw_head.specs.declared.target.Form.TheVariants.{Absolute, Asterisk, O
 use Rattle.gw_head.specs.Host.{host_without_port}
 use Rattle.gw_head.specs.Lines.{first_line, line_count}
 use Rattle.gw_head.specs.Target.{form_of, authority_of, path_in, query_of, has_bad_escape}
-use Rattle.gw_head.specs.Checks.{is_length, are_bad_lengths, is_bad_host, request_fault, request_lines_fault, has_other_request_version, has_too_many_fields, is_connect, has_bad_target, has_bad_coding, has_length_and_coding, has_bad_length, has_bad_host}
+use Rattle.gw_head.specs.Checks.{are_bad_lengths, is_bad_host, request_fault, request_lines_fault, has_other_request_version, has_too_many_fields, is_connect, has_bad_target, has_bad_coding, has_length_and_coding, has_bad_length, has_bad_host}
+use Rattle.gw_head.specs.Fields.{is_length}
 
 -- ---- hosts
 

@@ -1,15 +1,13 @@
 -- The checks of a head, each as a test, and the first that fails. A check is named by the code that the gateway
 -- answers, H1 to H11; RFC 9112 and RFC 9110 say why.
-use Rattle.std.specs.Prelude.{ℕ, ◌^◌, Bool, true, false, ◌&&◌, ◌||◌, not, List, [], ◌∷◌, length, nat_lt, nat_le, bytes_eq, codes, Option, Some, None, ◌==◌, if◌then◌else◌}
+use Rattle.std.specs.Prelude.{ℕ, Bool, true, false, ◌&&◌, ◌||◌, not, List, [], ◌∷◌, length, nat_lt, nat_le, bytes_eq, codes, Option, Some, None, ◌==◌, if◌then◌else◌}
 use Rattle.std.specs.List.{list_any, list_all}
-use Rattle.std.specs.Char.{is_ascii_digit}
 use Rattle.std.specs.Str.{str_eq_ignore_ascii_case}
-use Rattle.std.specs.Str.Parse.{digits_value}
 use Rattle.gw_head.specs.declared.error.HeadError.{HeadError}
 use Rattle.gw_head.specs.declared.error.HeadError.TheVariants.{Malformed, TooManyFields, Version, HostCount, BadLength, LengthAndCoding, Coding, BadEscape, Connect, Expectation}
 use Rattle.gw_head.specs.declared.target.Form.{Form}
 use Rattle.gw_head.specs.declared.target.Form.TheVariants.{Origin, Absolute, Asterisk, Other}
-use Rattle.gw_head.specs.Fields.{values_named}
+use Rattle.gw_head.specs.Fields.{is_length, values_named}
 use Rattle.gw_head.specs.Lines.{first_line, has_too_many_lines, begins_with_other_version, ends_with_other_version}
 use Rattle.gw_head.specs.Target.{form_of, authority_in, path_in, has_bad_escape}
 
@@ -62,10 +60,6 @@ has_bad_coding minor fields =
 -- H7: both a coding and a length (RFC 9112, section 6.3)
 unfoldable pub has_length_and_coding : List (List ℕ × List ℕ) → Bool
 has_length_and_coding fields = is_some_value (codings_of fields) && is_some_value (lengths_of fields)
-
--- digits of a number up to 2^63 - 1 (RFC 9110, section 8.6)
-abbrev pub is_length : List ℕ → Bool
-is_length value = nat_lt 0 (length value) && (list_all is_ascii_digit value && nat_lt (digits_value 10 value) (2 ^ 63))
 
 -- the first is no length, or not all have its bytes
 abbrev pub are_bad_lengths : List (List ℕ) → Bool

@@ -1,6 +1,7 @@
 //! The checks of the parts of a head, in their order.
 ghost use Rattle.std.specs.Prelude.{◌≡◌};
-ghost use Rattle.gw_head.specs.Checks.{is_connect, is_no_form, has_bad_target, has_bad_coding, has_length_and_coding, is_length, has_bad_length, is_bad_host_byte, is_bad_host, first_value, is_wrong_count, has_bad_host, has_bad_path, has_bad_expectation, request_fault, has_bad_code, reply_fault, hosts_of};
+ghost use Rattle.gw_head.specs.Checks.{is_connect, is_no_form, has_bad_target, has_bad_coding, has_length_and_coding, has_bad_length, is_bad_host_byte, is_bad_host, first_value, is_wrong_count, has_bad_host, has_bad_path, has_bad_expectation, request_fault, has_bad_code, reply_fault, hosts_of};
+ghost use Rattle.gw_head.specs.Fields.{is_length};
 
 use crate::error::HeadError;
 use crate::field_lines::FieldLines;

@@ -1,8 +1,9 @@
 //! The fields of a head, by their names.
-ghost use Rattle.std.specs.Prelude.{◌≡◌, ◌≢◌, [], ◌∷◌, ℕ, List, All, MatchOption, map, length};
+ghost use Rattle.std.specs.Prelude.{◌≡◌, ◌≢◌, true, false, [], ◌∷◌, ℕ, List, All, MatchOption, map, length};
 ghost use Rattle.std.specs.List.{list_all};
+ghost use Rattle.std.specs.Str.Parse.{digits_value};
 ghost use Rattle.httparse.specs.Spans.{IsHeaderWithin, header_bytes};
-ghost use Rattle.gw_head.specs.Fields.{values_named, IsLength, agrees};
+ghost use Rattle.gw_head.specs.Fields.{values_named, agrees, is_length};
 
 use httparse::spans::HeaderSpan;
 
@@ -94,8 +95,9 @@ fn agrees(bytes: &[u8], field: &HeaderSpan, name: &[u8], value: &[u8]) -> bool
 }
 
 /// The number that the value of a Content-Length writes; None where it is none.
+#[tactic(auto, using(crate::proofs::CheckLemmas::length_no))]
 pub(crate) fn read_length(value: &[u8]) -> Option<u64>
-    ensures { MatchOption result ((n : ℕ) → IsLength value.now n → ⊥) (λ n. IsLength value.now n) }
+    ensures { MatchOption result (is_length value.now ≡ false) (λ n. (is_length value.now ≡ true) × (n ≡ digits_value 10 value.now)) }
 {
     let mut number: u64 = 0;
     for digit in value {

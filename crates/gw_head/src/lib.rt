@@ -10,6 +10,7 @@ mod field_lines;
 mod fields;
 mod framing;
 mod host;
+mod judged;
 mod laws;
 mod lines;
 mod mark;

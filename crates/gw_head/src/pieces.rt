@@ -2,6 +2,8 @@
 ghost use Rattle.std.specs.Prelude.{◌≡◌, ◌≤◌, IfSome, ◌<◌, drop, take, length, position, slice_index};
 ghost use Rattle.gw_head.specs.Pieces.{is_byte, count_of, before, after};
 
+use memchr::memchr;
+
 /// The byte at `i`, or 0 behind the last.
 pub(crate) fn byte_at(bytes: &[u8], i: usize) -> u8
     ensures { result ≡ slice_index bytes.now i }
@@ -32,7 +34,7 @@ pub(crate) fn place_of(bytes: &[u8], byte: u8) -> Option<usize>
     ensures place { result ≡ position (is_byte byte) bytes.now }
     ensures within { IfSome result (λ at. at < length bytes.now) }
 {
-    bytes.iter().position(|b| *b == byte)
+    memchr(byte, bytes)
 }
 
 /// What stands before the first such byte, or all where there is none.

@@ -7,9 +7,10 @@ ghost use Rattle.gw_head.specs.Stage.{reads, closed, bytes_of, Feeds};
 ghost use Rattle.gw_head.specs.Take.{Takes, Concludes};
 
 use crate::error::{HeadError, NoMemory, Refusal};
+use crate::judged::Judged;
 use crate::mark::{Place, scan};
-use crate::reply::{ReplyHead, judge_reply};
-use crate::request::{RequestHead, judge_request};
+use crate::reply::ReplyHead;
+use crate::request::RequestHead;
 use std::alloc::Global;
 use std::marker::Model;
 
@@ -136,32 +137,19 @@ impl HeadReader {
     pub fn feed_request(&mut self, piece: &[u8]) -> Fed<RequestHead>
         ensures { Feeds RequestHeadOf BadRequestHead self.old piece.now result self.new }
     {
-        match self.take_in(piece) {
-            Taken::Closed(error) => Fed {
-                used: 0,
-                step: Step::Bad(error),
-            },
-            Taken::More => Fed {
-                used: piece.len(),
-                step: Step::More,
-            },
-            Taken::Whole(used) => {
-                let judged = judge_request(self.alloc, self.bytes());
-                Fed {
-                    used,
-                    step: self.conclude(judged),
-                }
-            }
-            Taken::TooLong => Fed {
-                used: piece.len(),
-                step: Step::Bad(HeadError::TooLong),
-            },
-        }
+        self.feed(piece)
     }
 
     /// Takes the next piece of a stream that begins with a reply's head; what it uses and answers is as for a request.
     pub fn feed_reply(&mut self, piece: &[u8]) -> Fed<ReplyHead>
         ensures { Feeds ReplyHeadOf BadReplyHead self.old piece.now result self.new }
+    {
+        self.feed(piece)
+    }
+
+    // Takes the next piece of a stream that begins with a head of either kind.
+    fn feed<H: Judged + Drop>(&mut self, piece: &[u8]) -> Fed<H>
+        ensures { Feeds H.is_head H.is_bad self.old piece.now result self.new }
     {
         match self.take_in(piece) {
             Taken::Closed(error) => Fed {
@@ -173,7 +161,7 @@ impl HeadReader {
                 step: Step::More,
             },
             Taken::Whole(used) => {
-                let judged = judge_reply(self.alloc, self.bytes());
+                let judged = H::judge(self.alloc, self.bytes());
                 Fed {
                     used,
                     step: self.conclude(judged),

@@ -5,6 +5,7 @@ ghost use Rattle.gw_head.specs.Pieces.{before, has_byte};
 ghost use Rattle.gw_head.specs.Target.{begins_with, scheme_length, is_authority_end, authority_of, behind_authority, is_plain_authority, is_origin, is_absolute, is_asterisk, form_of, authority_in, path_in, resource_in, slash_for_none, begins_with_pair, has_bad_escape, IsQuery};
 
 use crate::pieces::{after, before, byte_at, front, skip};
+use memchr::memchr2;
 
 /// The form of a request's target (RFC 9112, section 3.2).
 #[derive(Clone, Copy)]
@@ -100,7 +101,7 @@ fn authority_length(text: &[u8]) -> usize
 fn place_of_authority_end(text: &[u8]) -> Option<usize>
     ensures { result ≡ position is_authority_end text.now }
 {
-    text.iter().position(|b| *b == b'/' || *b == b'?')
+    memchr2(b'/', b'?', text)
 }
 
 fn authority_of(target: &[u8]) -> &[u8]

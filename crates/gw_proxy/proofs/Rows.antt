@@ -1,16 +1,14 @@
 -- The definitions at worked examples.
-use Rattle.std.proofs.Common.{◌≡◌, ℕ, true, false, List, [], ◌∷◌, ◌++◌, length, Option, Some, None, refl, ◌∙◌}
+use Rattle.std.proofs.Common.{◌≡◌, ℕ, true, false, List, [], ◌∷◌, Some, None, refl, ◌∙◌}
 use Rattle.std.specs.Fmt.{digits}
 use Rattle.std.specs.Prelude.{codes}
 use Rattle.httpdate.specs.declared.parts.Parts.{Parts}
 use Rattle.httpdate.proofs.OnLiterals.{httpdate_on_literals}
 use Rattle.httpdate.proofs.Theorems.{date_text_is}
 use Rattle.gw_wire.specs.declared.values.Addr.{Addr}
-use Rattle.gw_head.specs.declared.framing.Framing.{Framing}
-use Rattle.gw_head.specs.declared.framing.Framing.TheVariants.{None as NoBody, Length, Chunked}
+use Rattle.gw_head.specs.declared.framing.Framing.TheVariants.{None as NoBody}
 use Rattle.gw_head.specs.declared.request.RequestHead.{RequestHead}
 use Rattle.gw_head.specs.declared.reply.ReplyHead.{ReplyHead}
-use Rattle.gw_proxy.specs.declared.own.Own.{Own}
 use Rattle.gw_proxy.specs.declared.own.Own.TheVariants.{Moved, Plain}
 use Rattle.gw_proxy.specs.Date.{IsDateAt}
 use Rattle.gw_proxy.specs.OutReply.{out_reply_of, own_reply_of, phrase_of}

@@ -1,5 +1,5 @@
 -- Lists of fields, and the fields that the gateway adds.
-use Rattle.std.specs.Prelude.{ℕ, Bool, true, false, not, List, [], ◌∷◌, ◌++◌, codes, decimal, filter, flat_map, map, Option, Some, None, if◌then◌else◌}
+use Rattle.std.specs.Prelude.{ℕ, Bool, true, false, not, List, [], ◌∷◌, ◌++◌, codes, decimal, filter, Option, Some, None, if◌then◌else◌}
 use Rattle.gw_fields.specs.Fields.{is_named}
 use Rattle.gw_fields.specs.Order.{lines_of, sorted}
 use Rattle.gw_head.specs.declared.framing.Framing.{Framing}

@@ -1,5 +1,5 @@
 -- The head of a reply as it goes to a client, and the replies that the gateway gives by itself.
-use Rattle.std.specs.Prelude.{◌≡◌, ℕ, Bool, true, false, not, ◌||◌, ◌&&◌, List, [], ◌∷◌, ◌++◌, codes, decimal, length, nat_le, nat_lt, bytes_eq, flat_map, unwrap_or, IsTrue, Option, Some, None, if◌then◌else◌, ◌==◌}
+use Rattle.std.specs.Prelude.{◌≡◌, ℕ, Bool, true, ◌||◌, ◌&&◌, List, [], ◌∷◌, ◌++◌, codes, decimal, length, nat_le, nat_lt, bytes_eq, flat_map, unwrap_or, Option, Some, None, if◌then◌else◌, ◌==◌}
 use Rattle.std.specs.List.{list_any}
 use Rattle.http.specs.StatusCode.{reason_phrase}
 use Rattle.gw_fields.specs.Hops.{without_hops}

@@ -1,5 +1,5 @@
 -- The head of a request as it goes to a backend: a function of the list of fields.
-use Rattle.std.specs.Prelude.{ℕ, ◌-◌, Bool, false, true, ◌||◌, List, [], ◌∷◌, ◌++◌, codes, length, take, drop, slice_index, map, filter, flat_map, Option, Some, None, if◌then◌else◌, ◌==◌}
+use Rattle.std.specs.Prelude.{ℕ, ◌-◌, Bool, ◌||◌, List, [], ◌∷◌, ◌++◌, codes, length, take, drop, slice_index, Option, Some, None, if◌then◌else◌, ◌==◌}
 use Rattle.gw_wire.specs.declared.values.Addr.{Addr}
 use Rattle.gw_wire.specs.AddressText.{address_text}
 use Rattle.gw_fields.specs.Fields.{has_token}

@@ -3,6 +3,7 @@
 #![tactic(auto)]
 
 mod date;
+mod error;
 mod laws;
 mod lines;
 mod own;
@@ -11,13 +12,11 @@ mod request;
 mod status;
 mod target;
 
+pub use error::NoMemory;
 pub use laws::one_date_at_a_moment;
 pub use own::{Own, own_reply};
 pub use reply::{out_reply_head, sent_framing};
 pub use request::{OutHead, out_request};
-
-/// The want of memory.
-pub type NoMemory = std::alloc::AllocError;
 
 #[cfg(test)]
 mod tests;

@@ -4,7 +4,7 @@ ghost use Rattle.gw_fields.specs.Order.{lines_of};
 ghost use Rattle.gw_proxy.specs.Lines.{coding_fields, length_fields};
 ghost use Rattle.gw_proxy.specs.Texts.{text_fields};
 
-use crate::NoMemory;
+use crate::error::NoMemory;
 use gw_fields::Lines;
 use gw_head::Framing;
 use std::alloc::Global;

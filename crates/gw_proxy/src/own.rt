@@ -2,8 +2,8 @@
 ghost use Rattle.std.specs.Prelude.{◌≡◌, ◌<◌, ◌++◌, IfOk, OnOk, IsTrue};
 ghost use Rattle.gw_proxy.specs.OutReply.{allowed_text, is_own, method_list, own_body, own_code, own_line, own_reply_of, sent_body, OwnReply};
 
-use crate::NoMemory;
 use crate::date::date_at;
+use crate::error::NoMemory;
 use crate::lines::{length_text, push_length};
 use crate::status::{code_line, push_close, reply_text};
 use gw_fields::Lines;

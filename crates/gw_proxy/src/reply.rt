@@ -2,8 +2,8 @@
 ghost use Rattle.std.specs.Prelude.{◌≡◌, ◌<◌, ◌++◌, IfOk, OnOk};
 ghost use Rattle.gw_proxy.specs.OutReply.{date_fields, out_reply_of, reply_length, sent_framing_of, OutReply};
 
-use crate::NoMemory;
 use crate::date::date_at;
+use crate::error::NoMemory;
 use crate::lines::{length_text, push_coding, push_length};
 use crate::status::{push_close, reply_text};
 use gw_fields::Lines;

@@ -6,7 +6,7 @@ ghost use Rattle.gw_proxy.specs.OutRequest.{has_key_of, host_of, host_or, out_he
 ghost use Rattle.gw_proxy.specs.Lines.{coding_fields, field_section};
 ghost use Rattle.gw_proxy.specs.Texts.{text_fields};
 
-use crate::NoMemory;
+use crate::error::NoMemory;
 use crate::lines::{length_text, push_coding, push_length, push_section};
 use crate::target::push_target;
 use gw_fields::{Fields, Lines};

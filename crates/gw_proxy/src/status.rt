@@ -3,10 +3,11 @@ ghost use Rattle.std.specs.Prelude.{◌≡◌, ◌++◌, IfOk, OnOk};
 ghost use Rattle.gw_proxy.specs.Lines.{field_section};
 ghost use Rattle.gw_proxy.specs.OutReply.{close_fields, code_line, code_text, phrase_of, status_line_of, version_of};
 
-use crate::NoMemory;
+use crate::error::NoMemory;
 use crate::lines::push_section;
 use gw_fields::Lines;
 use http::StatusCode;
+use itoa::Buffer;
 use std::alloc::Global;
 
 // The status line and the empty line.
@@ -30,19 +31,19 @@ pub(crate) fn reply_text(
         .saturating_add(body.len())
         .saturating_add(FRAME_ROOM);
     let mut out = Vec::with_capacity(alloc, room)?;
-    push_status_line(alloc, old, code, &mut out)?;
+    push_status_line(old, code, &mut out)?;
     push_section(&lines, &mut out)?;
     out.extend_from_slice(body)?;
     Ok(out)
 }
 
 // The version, the code and its phrase (RFC 9112, section 4).
-fn push_status_line(alloc: Global, old: bool, code: u16, out: &mut Vec<u8>) -> Result<(), NoMemory>
+fn push_status_line(old: bool, code: u16, out: &mut Vec<u8>) -> Result<(), NoMemory>
     ensures { OnOk result (out.new.items ≡ out.old.items ++ status_line_of old code) }
 {
     out.extend_from_slice(version_of(old).as_bytes())?;
     out.extend_from_slice(b" ")?;
-    push_code(alloc, code, out)?;
+    push_code(code, out)?;
     out.extend_from_slice(b"\r\n")
 }
 
@@ -57,16 +58,17 @@ pub(crate) fn code_line(alloc: Global, code: u16) -> Result<Vec<u8>, NoMemory>
     ensures { IfOk result (λ line. line.items ≡ code_line code) }
 {
     let mut line = Vec::with_capacity(alloc, FRAME_ROOM)?;
-    push_code(alloc, code, &mut line)?;
+    push_code(code, &mut line)?;
     line.extend_from_slice(b"\n")?;
     Ok(line)
 }
 
 // Appends the code and its phrase.
-fn push_code(alloc: Global, code: u16, out: &mut Vec<u8>) -> Result<(), NoMemory>
+fn push_code(code: u16, out: &mut Vec<u8>) -> Result<(), NoMemory>
     ensures { OnOk result (out.new.items ≡ out.old.items ++ code_text code) }
 {
-    out.extend_from_slice(code.to_string(alloc)?.as_bytes())?;
+    let mut digits = Buffer::new();
+    out.extend_from_slice(digits.format(code).as_bytes())?;
     out.extend_from_slice(b" ")?;
     out.extend_from_slice(phrase_of(code).as_bytes())
 }

@@ -2,7 +2,7 @@
 ghost use Rattle.std.specs.Prelude.{◌≡◌, ◌++◌, OnOk};
 ghost use Rattle.gw_proxy.specs.OutRequest.{joined, query_text, target_of, without_first_slash, without_last_slash};
 
-use crate::NoMemory;
+use crate::error::NoMemory;
 use gw_head::RequestHead;
 use gw_wire::Bytes;
 

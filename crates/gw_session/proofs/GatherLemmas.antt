@@ -23,8 +23,7 @@ use Rattle.gw_chunk.specs.declared.decoder.ChunkStep.{ChunkStep}
 use Rattle.gw_chunk.specs.declared.decoder.ChunkStep.TheVariants.{Data, More, Done}
 use Rattle.gw_chunk.specs.Chunked.{coded, coded_piece, coded_end, piece_limit, pieces_within, pieces_of}
 use Rattle.gw_chunk.specs.Position.{after, is_undecided, Has}
-use Rattle.gw_chunk.proofs.TextLaws.{has_text, fails_bad, undecided_end, undecided_fault}
-use Rattle.gw_chunk.proofs.Walks.{content_step}
+use Rattle.gw_chunk.proofs.Facts.{content_step, has_text, fails_bad, undecided_end, undecided_fault}
 use Rattle.gw_head.specs.declared.framing.Framing.{Framing}
 use Rattle.gw_head.specs.declared.framing.Framing.TheVariants.{None as NoBody, Length, Chunked as InChunks, ToEnd as ToLinkEnd}
 use Rattle.gw_body.specs.declared.place.Place.{Place}
@@ -35,14 +34,14 @@ use Rattle.gw_body.specs.Body.{BodyOf, BadBody}
 use Rattle.gw_body.specs.Places.{begins, ended, HasBody, FailsBody}
 use Rattle.gw_body.specs.Taken.{Takes, Feeds, Steps, WantsMore, Ends, GivesData, DecidesNothing}
 use Rattle.gw_body.specs.Written.{plan_of, piece_text, behind_piece, body_text}
-use Rattle.gw_body.proofs.Taking.{takes_none, takes_then}
+use Rattle.gw_body.proofs.Facts.{takes_none, takes_then}
 use Rattle.gw_session.specs.declared.gather.Ahead.TheVariants as step
 use Rattle.gw_session.specs.declared.gather.Gathered.{Gathered}
 use Rattle.gw_session.specs.declared.gather.Gathered.TheVariants as gathered
 use Rattle.gw_session.specs.declared.waits.Heard.TheVariants as heard
 use Rattle.gw_session.specs.declared.waits.Loss.{Loss}
 use Rattle.gw_session.specs.declared.waits.Loss.TheVariants as loss
-use Rattle.gw_session.specs.Gathering.{is_inside, ending_acts, IsCut, IsPartOfBody, HearsPart, HearsBody, TakesFront, TookAhead, LinkLeaves, Gathering, Fits, FitsPlan, Writing, text_left}
+use Rattle.gw_session.specs.Gathering.{is_inside, ending_acts, IsCut, IsPartOfBody, HearsPart, HearsBody, TakesFront, TookAhead, LinkLeaves, Gathering}
 use Rattle.gw_session.specs.Waits.{HeardStep, loss_acts}
 use Rattle.gw_session.proofs.HearLemmas.{told_read, told_loss, goes_on}
 
@@ -349,87 +348,3 @@ loss_heard old mid new first at to framing kept p next ahead left body more piec
     let lost : Logs mid.log new.log (loss_acts first.number why) = rw (← g.goes.link.number) h.log in
     left_told old.log new.log first.number framing kept (g.used ++ ahead) more piece next why result all t.2 h.cause.1 leaves
     (told_loss (IsPartOfBody framing) old.log mid.log new.log first.number kept (g.used ++ ahead) why g.log lost)
-
--- ---- a body's text
-
-pieces_more : (turns more : ℕ) (d : List ℕ) → length d ≤ turns → turns ≤ more → pieces_within more d ≡ pieces_within turns d
-pieces_more zero zero [] few some = refl
-pieces_more zero (suc more) [] few some = refl
-pieces_more zero more (b ∷ d) few some = absurd (omega arith)
-pieces_more (suc turns) zero d few some = absurd (omega arith)
-pieces_more (suc turns) (suc more) [] few some = refl
-pieces_more (suc turns) (suc more) (b ∷ d) few some =
-    let size = length-drop piece_limit (b ∷ d) in
-    ap (λ l. take piece_limit (b ∷ d) ∷ l) (pieces_more turns more (drop piece_limit (b ∷ d)) (omega arith) (omega arith))
-
--- the encoder's text begins with one chunk
-coded_front : (d : List ℕ) → 0 < length d → coded d ≡ coded_piece (take piece_limit d) ++ coded (drop piece_limit d)
-coded_front [] some = absurd (omega arith)
-coded_front (b ∷ d) some =
-    let size = length-drop piece_limit (b ∷ d) in
-    ap (λ l. flat_map coded_piece (take piece_limit (b ∷ d) ∷ l) ++ coded_end)
-    (pieces_more (length (drop piece_limit (b ∷ d))) (length d) (drop piece_limit (b ∷ d)) (omega arith) (omega arith))
-    ∙ append_assoc (coded_piece (take piece_limit (b ∷ d))) (flat_map coded_piece (pieces_of (drop piece_limit (b ∷ d)))) coded_end
-
--- the next piece of what is left, and what is behind it
-record Cuts (rest piece behind : List ℕ) : Type 0 where
-  pub some : 0 < length rest
-  pub piece_is : piece ≡ take piece_limit rest
-  pub behind_is : behind ≡ drop piece_limit rest
-
-text_front : (to_write : Plan) (rest piece behind : List ℕ) → Cuts rest piece behind
-    → text_left to_write rest ≡ piece_text to_write piece ++ text_left (behind_piece to_write piece) behind
-text_front (plan.Counted left) rest piece behind c = rw (c.piece_is, c.behind_is) (sym (take-append-drop piece_limit rest))
-text_front (plan.Chunked short) rest piece behind c = rw (c.piece_is, c.behind_is) (coded_front rest c.some)
-text_front plan.ToEnd rest piece behind c = rw (c.piece_is, c.behind_is) (sym (take-append-drop piece_limit rest))
-
-fits_behind : (to_write : Plan) (rest piece behind : List ℕ) → Cuts rest piece behind → FitsPlan to_write rest → FitsPlan (behind_piece to_write piece) behind
-fits_behind (plan.Counted left) rest piece behind c fits =
-    let front = ap length c.piece_is ∙ length-take piece_limit rest in
-    let back = ap length c.behind_is ∙ length-drop piece_limit rest in
-    omega arith
-fits_behind (plan.Chunked short) rest piece behind c fits = λ is.
-    (let few = ltb-true (length piece) piece_limit is in
-    let front = ap length c.piece_is ∙ length-take piece_limit rest in
-    c.behind_is ∙ drop_all piece_limit rest (omega arith))
-fits_behind plan.ToEnd rest piece behind c fits = tt
-
-cut_of : (rest piece behind : List ℕ) (n : ℕ) → 0 < length rest → n ≡ min (length rest) piece_limit → piece ≡ take n rest → behind ≡ drop n rest
-    → Cuts rest piece behind
-cut_of rest piece behind n some size front back =
-    let same : n ≡ min piece_limit (length rest) = omega arith in
-    let taken : take n rest ≡ take piece_limit rest = ap (λ m. take m rest) same ∙ take_min piece_limit rest in
-    let joined : take piece_limit rest ++ drop n rest ≡ take piece_limit rest ++ drop piece_limit rest =
-    ap (λ l. l ++ drop n rest) (sym taken) ∙ take-append-drop n rest ∙ sym (take-append-drop piece_limit rest) in
-    record { some = some; piece_is = front ∙ taken; behind_is = back ∙ append_cancel_left _ _ _ joined }
-
-fits_plan : (framing : Framing) (content : List ℕ) → Fits framing content → FitsPlan (plan_of framing) content
-fits_plan NoBody content fits = ap length fits
-fits_plan (Length n) content fits = fits
-fits_plan InChunks content fits = λ e. absurd (cc)
-fits_plan ToLinkEnd content fits = tt
-
-text_first : (framing : Framing) (content : List ℕ) → text_left (plan_of framing) content ≡ body_text framing content
-text_first NoBody content = refl
-text_first (Length n) content = refl
-text_first InChunks content = refl
-text_first ToLinkEnd content = refl
-
-pub writing_begins : (framing : Framing) (content before : List ℕ) (to_write : Plan) → Fits framing content → to_write ≡ plan_of framing
-    → Writing framing content before before content to_write
-writing_begins framing content before to_write fits first = record {
-  fits = rw first (fits_plan framing content fits);
-  text = rw first (ap (λ l. before ++ l) (text_first framing content));
-}
-
-pub writing_more : (framing : Framing) (content before out rest piece behind : List ℕ) (n : ℕ) (to_write : Plan)
-    → Writing framing content before out rest to_write → false ≡ (length rest == 0) → n ≡ min (length rest) piece_limit → piece ≡ take n rest → behind ≡ drop n rest
-    → Writing framing content before (out ++ piece_text to_write piece) behind (behind_piece to_write piece)
-writing_more framing content before out rest piece behind n to_write w some size front back =
-    let is_some = eqb-false (length rest) 0 (sym some) in
-    let c = cut_of rest piece behind n (omega arith) size front back in
-    record {
-      fits = fits_behind to_write rest piece behind c w.fits;
-      text = append_assoc out (piece_text to_write piece) (text_left (behind_piece to_write piece) behind)
-          ∙ ap (λ l. out ++ l) (sym (text_front to_write rest piece behind c)) ∙ w.text;
-    }

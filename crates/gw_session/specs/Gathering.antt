@@ -84,13 +84,6 @@ gathered_waits (gathered.Bad error) = 0
 gathered_waits (gathered.Lost why) = loss_waits why
 gathered_waits gathered.NoMemory = 0
 
--- the data is as long as the framing says
-abbrev pub Fits : Framing → List ℕ → Type 0
-Fits NoBody d = d ≡ []
-Fits (Length n) d = length d ≡ n
-Fits Chunked d = Unit {0}
-Fits ToEnd d = Unit {0}
-
 -- ---- on the way
 
 -- bytes of a body were taken from the front of those ahead, and their data was appended
@@ -122,20 +115,3 @@ pub record Gathering (old new : WireView) (from to : LinkView) (framing : Framin
   pub used : List ℕ
   pub takes : Takes (begins framing) used body place
   pub log : Told old.log new.log (HearsPart framing from.number kept (used ++ ahead))
-
--- the text of the data that is left
-abbrev pub text_left : Plan → List ℕ → List ℕ
-text_left (plan.Counted left) rest = rest
-text_left (plan.Chunked short) rest = coded rest
-text_left plan.ToEnd rest = rest
-
--- it may be written: there is as much as was said, and none behind a short chunk
-abbrev pub FitsPlan : Plan → List ℕ → Type 0
-FitsPlan (plan.Counted left) rest = length rest ≡ left
-FitsPlan (plan.Chunked short) rest = short ≡ true → rest ≡ []
-FitsPlan plan.ToEnd rest = Unit {0}
-
--- a body that is being written: the text so far and that of what is left are the body's, behind what stood before
-pub record Writing (framing : Framing) (content before out rest : List ℕ) (to_write : Plan) : Type 0 where
-  pub fits : FitsPlan to_write rest
-  pub text : out ++ text_left to_write rest ≡ before ++ body_text framing content

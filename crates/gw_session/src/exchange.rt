@@ -9,9 +9,9 @@ ghost use Rattle.gw_session.specs.Resting.{IsRested};
 ghost use Rattle.gw_session.specs.Routing.{LeadsTo};
 
 use crate::attempt::{Answered, attempt, is_reusable};
-use crate::gather::write_body;
 use crate::inbox::Inbox;
 use crate::lease::{Leased, end_lease, lease};
+use gw_body::write_body;
 use gw_head::{HeadReader, RequestHead};
 use gw_pool::Leases;
 use gw_proxy::out_request;

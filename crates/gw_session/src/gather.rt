@@ -1,16 +1,15 @@
-//! A whole body of a link, and the text that a body is written as.
+//! A whole body of a link.
 
-ghost use Rattle.std.specs.Prelude.{◌≡◌, ◌++◌, false, OnOk};
+ghost use Rattle.std.specs.Prelude.{◌≡◌, false};
 ghost use Rattle.gw_wire.specs.Causes.{RoseBy};
 ghost use Rattle.gw_wire.specs.Stretch.{Told};
-ghost use Rattle.gw_body.specs.Written.{body_text};
-ghost use Rattle.gw_session.specs.Gathering.{Fits, HearsBody, LinkLeaves, TookAhead, gathered_waits};
+ghost use Rattle.gw_session.specs.Gathering.{HearsBody, LinkLeaves, TookAhead, gathered_waits};
 ghost use Rattle.gw_session.specs.Waits.{GoesOn};
 
 use crate::inbox::Inbox;
 use crate::waits::{Heard, Loss};
-use gw_body::{AtEnd, BodyReader, BodyWriter};
-use gw_chunk::{ChunkError, ChunkStep, PIECE_LIMIT};
+use gw_body::{AtEnd, BodyReader};
+use gw_chunk::{ChunkError, ChunkStep};
 use gw_head::Framing;
 use gw_wire::Wire;
 use std::alloc::{AllocError, Global};
@@ -111,30 +110,4 @@ fn leave(reader: &mut BodyReader, body: Vec<u8>, why: Loss) -> Gathered
         },
         Loss::Failed | Loss::Timeout => Gathered::Lost(why),
     }
-}
-
-/// Appends the text of a body's data: in chunks of 8,192 bytes and one of the rest, if they are framed so (RFC 9112,
-/// section 7.1), else the data. Where memory is wanting a part of it may have been appended.
-pub fn write_body(framing: Framing, content: &[u8], out: &mut Vec<u8>) -> Result<(), AllocError>
-    ensures { OnOk result (out.new.items ≡ out.old.items ++ body_text framing content.now) }
-{
-    match framing {
-        Framing::Chunked => write_pieces(Framing::Chunked, content, out),
-        Framing::None | Framing::Length(_) | Framing::ToEnd => out.extend_from_slice(content),
-    }
-}
-
-// Appends the text of a body's data, in pieces as long as a chunk may be.
-fn write_pieces(framing: Framing, content: &[u8], out: &mut Vec<u8>) -> Result<(), AllocError>
-    requires { Fits framing content.now }
-    ensures { OnOk result (out.new.items ≡ out.old.items ++ body_text framing content.now) }
-{
-    let mut writer = BodyWriter::new(framing);
-    let mut rest = content;
-    while !rest.is_empty() {
-        let (piece, behind) = rest.split_at(rest.len().min(PIECE_LIMIT));
-        writer.piece(piece, out)?;
-        rest = behind;
-    }
-    writer.end(out)
 }

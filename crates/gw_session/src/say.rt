@@ -9,8 +9,8 @@ ghost use Rattle.gw_session.specs.Replies.{PassedText, SaidAnswer, SaidOwn, Said
 use crate::attempt::{Answered, Reply};
 use crate::end::{Ended, Next, Why};
 use crate::exchange::Answer;
-use crate::gather::write_body;
 use crate::waits::{Sent, send};
+use gw_body::write_body;
 use gw_head::RequestHead;
 use gw_proxy::{Own, out_reply_head, own_reply, sent_framing};
 use gw_wire::Wire;

@@ -2,7 +2,7 @@
 
 ghost use Rattle.std.specs.Prelude.{◌≡◌, false, IfOk};
 
-use crate::gather::{Gathered, gather_body, write_body};
+use crate::gather::{Gathered, gather_body};
 use crate::inbox::Inbox;
 use crate::waits::{Heard, Loss};
 use gw_chunk::ChunkError;
@@ -177,29 +177,5 @@ fn ahead_before(rt: HostRuntime) -> Result<(), Fail> {
     assert!(rt; is_whole(&third, b""));
     assert_eq!(rt; inbox.ahead(), b"!".as_slice());
     assert_eq!(rt; wire.acts().len(), 1);
-    Ok(())
-}
-
-#[test]
-fn two_chunks(rt: HostRuntime) -> Result<(), Fail> {
-    let alloc = rt.alloc();
-    let mut out = b"\r\n".to_vec(alloc)?;
-    write_body(Framing::Chunked, &[b'c'; 8_193], &mut out)?;
-    assert_eq!(rt; out.len(), 2 + 8_200 + 6 + 5);
-    assert!(rt; out.starts_with(b"\r\n2000\r\nc"));
-    assert!(rt; out.ends_with(b"c\r\n1\r\nc\r\n0\r\n\r\n"));
-    Ok(())
-}
-
-#[test]
-fn plain_texts(rt: HostRuntime) -> Result<(), Fail> {
-    let mut out = b"> ".to_vec(rt.alloc())?;
-    write_body(Framing::Length(5), b"hello", &mut out)?;
-    write_body(Framing::None, b"", &mut out)?;
-    write_body(Framing::ToEnd, &[b'!'; 8_193], &mut out)?;
-    assert_eq!(rt; out.len(), 2 + 5 + 8_193);
-    assert!(rt; out.starts_with(b"> hello!"));
-    write_body(Framing::Chunked, b"", &mut out)?;
-    assert!(rt; out.ends_with(b"!0\r\n\r\n"));
     Ok(())
 }

@@ -1,8 +1,0 @@
-use Rattle.gw_head.specs.Head.{ReplyHeadOf, BadReplyHead}
-use Rattle.gw_head.proofs.FeedLemmas.{fed_whole}
-use Rattle.gw_head.proofs.reader.HeadReader.feed_reply.Goals as goal
-
-pub returns-in-Whole : goal.returns-in-Whole
-returns-in-Whole c =
-    fed_whole ReplyHeadOf BadReplyHead _ _ _ _ _ _ _ _ _ c.in-Whole.is c.take_in.ensures c.bytes.ensures
-    c.judge_reply-judged.ensures c.conclude.ensures
