@@ -1,7 +1,9 @@
+mod Branches
 mod Chosen
 mod Conflicting
 mod Finding
 mod Lawful
+mod KeyOrder
 mod Matched
 mod Methods
 mod Orders
@@ -9,6 +11,7 @@ mod Parts
 mod Paths
 mod Redirecting
 mod Rows
+mod Runs
 mod Serving
 mod Shapes
 mod Steps

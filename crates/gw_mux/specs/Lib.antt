@@ -1,8 +1,11 @@
 pub mod Answer
 pub mod Best
+pub mod Keys
+pub mod Label
 pub mod Allow
 pub mod Decision
 pub mod Location
+pub mod Order
 pub mod Request
 pub mod Table
 pub mod Walk

@@ -6,8 +6,11 @@ mod allowed;
 mod answer;
 mod best;
 mod conflicts;
+mod keys;
+mod label;
 mod laws;
 mod location;
+mod order;
 mod routing;
 mod walk;
 
