@@ -3,12 +3,15 @@ mod Chosen
 mod Conflicting
 mod Finding
 mod Lawful
+mod Heads
 mod KeyOrder
+mod Lengths
 mod Matched
 mod Methods
 mod Orders
 mod Parts
 mod Paths
+mod Ranks
 mod Redirecting
 mod Rows
 mod Runs

@@ -12,6 +12,8 @@ mod laws;
 mod location;
 mod order;
 mod routing;
+mod sent;
+mod tree;
 mod walk;
 
 pub use answer::{Decision, Found, Hit, MuxError, Spans};

@@ -90,8 +90,8 @@ pub(crate) fn spans(segs: &[Seg], path: &[u8]) -> Spans
     spans
 }
 
-// The part behind the slash with which the path begins, and what follows it.
-fn next_part(path: &[u8]) -> Option<(&[u8], &[u8])>
+/// The part behind the slash with which the path begins, and what follows it.
+pub(crate) fn next_part(path: &[u8]) -> Option<(&[u8], &[u8])>
     ensures { MatchOption result (path.now ≡ []) (λ x. TakesPart path.now x.0.now x.1.now) }
 {
     let [_, tail @ ..] = path else {
