@@ -1,13 +1,17 @@
 mod Branches
+mod Branching
 mod Chosen
 mod Conflicting
 mod Finding
 mod Lawful
+mod Firsts
 mod Heads
 mod KeyOrder
 mod Lengths
 mod Matched
+mod MethodBranches
 mod Methods
+mod Nodes
 mod Orders
 mod Parts
 mod Paths
