@@ -7,6 +7,7 @@ mod Lawful
 mod Firsts
 mod Heads
 mod KeyOrder
+mod Leading
 mod Lengths
 mod Matched
 mod MethodBranches
