@@ -77,7 +77,7 @@ module _ (patterns : List Pattern) (at : ℕ) (numbers : List ℕ) (method : Lis
     rest_segs : (i : ℕ) (p : Pattern) → InRun patterns at numbers (4 ∷ []) i → IsAt patterns i p → (name : List ℕ) × (t : List Seg) × (drop at p.segs.items ≡ Rest name ∷ t)
     rest_segs i p c a = rest_head (drop at p.segs.items) p.method (key_in patterns at numbers node i p (4 ∷ []) c a)
 
-    split : (j : ℕ) → Each j → Kids j ⊎ Later j
+    pub split : (j : ℕ) → Each j → Kids j ⊎ Later j
     unfolding Fits
     split j f =
         let p = f.1.0 in
@@ -99,13 +99,13 @@ module _ (patterns : List Pattern) (at : ℕ) (numbers : List ℕ) (method : Lis
             y)
         (part_heads (drop at p.segs.items) part parts slash f.1.3)
 
-    back_kid : (j : ℕ) → Kids j → Each j
+    pub back_kid : (j : ℕ) → Kids j → Each j
     unfolding Fits
     back_kid j f =
         let x = kid_segs j f.1.0 f.0 f.1.1 in
         (f.0.0, (f.1.0, f.1.1, f.1.2, matched f.1.0 at (Literal part ∷ x.0) (part ∷ parts) slash x.1 (refl, matched_of f.1.0 (at + 1) x.0 parts slash (behind f.1.0.segs.items at (Literal part) x.0 x.1) f.1.3)))
 
-    back_one : (j : ℕ) → Ones j → Each j
+    pub back_one : (j : ℕ) → Ones j → Each j
     unfolding Fits
     back_one j f =
         let x = one_segs j f.1.0 f.0 f.1.1 in
@@ -199,7 +199,7 @@ module _ (patterns : List Pattern) (at : ℕ) (numbers : List ℕ) (method : Lis
   left_segs : (i : ℕ) (p : Pattern) → InRun patterns at numbers (4 ∷ []) i → IsAt patterns i p → (name : List ℕ) × (t : List Seg) × (drop at p.segs.items ≡ Rest name ∷ t)
   left_segs i p c a = rest_head (drop at p.segs.items) p.method (key_in patterns at numbers node i p (4 ∷ []) c a)
 
-  split_end : (j : ℕ) → Ended j → Ends j ⊎ Left j
+  pub split_end : (j : ℕ) → Ended j → Ends j ⊎ Left j
   unfolding Fits
   split_end j f =
       let p = f.1.0 in
@@ -215,13 +215,13 @@ module _ (patterns : List Pattern) (at : ℕ) (numbers : List ℕ) (method : Lis
       ))
       (end_heads (drop at p.segs.items) f.1.3)
 
-  back_end : (j : ℕ) → Ends j → Ended j
+  pub back_end : (j : ℕ) → Ends j → Ended j
   unfolding Fits
   back_end j f =
       let x = end_segs j f.1.0 f.0 f.1.1 in
       (f.0.0, (f.1.0, f.1.1, f.1.2, matched f.1.0 at (End ∷ x.0) [] true x.1 refl))
 
-  back_left : (j : ℕ) → Left j → Ended j
+  pub back_left : (j : ℕ) → Left j → Ended j
   unfolding Fits
   back_left j f =
       let x = left_segs j f.1.0 f.0 f.1.1 in

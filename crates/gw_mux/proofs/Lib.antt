@@ -1,3 +1,4 @@
+mod Adding
 mod Branches
 mod Branching
 mod Chosen
@@ -6,6 +7,7 @@ mod Finding
 mod Lawful
 mod Firsts
 mod Heads
+mod HostServing
 mod KeyOrder
 mod Leading
 mod Lengths

@@ -21,7 +21,7 @@ use Rattle.gw_mux.proofs.Paths.{IsSeen}
 abbrev pub served_by : Bool → Bool → Bool → Bool → Bool
 served_by h m s n = h && (m || (not s && n))
 
-abbrev Served : Type 0 → Type 0 → Bool → Type 0 → Type 0
+abbrev pub Served : Type 0 → Type 0 → Bool → Type 0 → Type 0
 Served H M s N = H × (M ⊎ ((s ≡ false) × N))
 
 served_decide : (h m s n : Bool) (H M N : Type 0) → Decides h H → Decides m M → Decides n N → IsTrue (served_by h m s n) ↔ Served H M s N
@@ -32,7 +32,7 @@ served_decide true false false n H M N d e f =
 served_decide true false true n H M N d e f =
     (λ t. let differ : false ≡ true = t in cc, λ k. ⊎_elim (λ x. e.1 x) (λ y. let differ : true ≡ false = y.0 in cc) k.1)
 
-to_serve : (p : Pattern) (host path body : List ℕ) (slash : Bool) → IsSeen [] host path body slash → Served (HostMatches p.host host) (SegsMatch p.segs.items (segments_in body) slash) slash (SegsMatch p.segs.items (segments_in body) true) → ServesPath p host path
+pub to_serve : (p : Pattern) (host path body : List ℕ) (slash : Bool) → IsSeen [] host path body slash → Served (HostMatches p.host host) (SegsMatch p.segs.items (segments_in body) slash) slash (SegsMatch p.segs.items (segments_in body) true) → ServesPath p host path
 unfolding ServesPath DoesServe
 to_serve p host path body slash s k =
     ⊎_elim
@@ -40,7 +40,7 @@ to_serve p host path body slash s k =
     (λ m. inr (s.ends ∙ m.0, subst (λ a. HostMatches p.host a.host × SegsMatch p.segs.items a.segs a.slash) (sym (s.more m.0)) (k.0, m.1)))
     k.1
 
-from_served : (p : Pattern) (host path body : List ℕ) (slash : Bool) → IsSeen [] host path body slash → ServesPath p host path → Served (HostMatches p.host host) (SegsMatch p.segs.items (segments_in body) slash) slash (SegsMatch p.segs.items (segments_in body) true)
+pub from_served : (p : Pattern) (host path body : List ℕ) (slash : Bool) → IsSeen [] host path body slash → ServesPath p host path → Served (HostMatches p.host host) (SegsMatch p.segs.items (segments_in body) slash) slash (SegsMatch p.segs.items (segments_in body) true)
 unfolding ServesPath DoesServe
 from_served p host path body slash s k =
     ⊎_elim

@@ -1,5 +1,5 @@
 -- What a walk through the tree finds.
-use Rattle.std.specs.Prelude.{◌≡◌, ℕ, ◌+◌, ◌<◌, false, Bool, List, Option, Some, None, Contains, drop, length}
+use Rattle.std.specs.Prelude.{◌≡◌, ℕ, ◌+◌, ◌<◌, ◌⊎◌, false, Bool, List, Option, Some, None, Contains, drop, length}
 use Rattle.gw_pattern.specs.declared.form.Pattern.{Pattern}
 use Rattle.gw_sets.specs.Comparison.{product, relation_of_methods, relation_of_segs}
 use Rattle.gw_sets.specs.Matches.{MethodMatches, SegsMatch}
@@ -14,11 +14,7 @@ pub record IsNode (patterns : List Pattern) (at : ℕ) (numbers : List ℕ) : Ty
   pub branches : (i : ℕ) (p : Pattern) → Contains numbers i → IsAt patterns i p → tail_at patterns (at + 1) i ≡ tail_keys (drop at p.segs.items) p.method
   pub there : (i : ℕ) → Contains numbers i → i < length patterns
 
--- the pattern's segments behind that many match these parts of a path
-unfoldable pub IsLeft : List Pattern → ℕ → List (List ℕ) → Bool → ℕ → Type 0
-IsLeft patterns at parts slash i = (p : Pattern) × IsAt patterns i p × SegsMatch (drop at p.segs.items) parts slash
-
--- and its method matches
+-- the pattern's method matches, and its segments behind that many match these parts of a path
 unfoldable pub Fits : List Pattern → ℕ → List ℕ → List (List ℕ) → Bool → ℕ → Type 0
 Fits patterns at method parts slash i =
     (p : Pattern) × IsAt patterns i p × MethodMatches p.method method × SegsMatch (drop at p.segs.items) parts slash
@@ -41,3 +37,14 @@ IsFirst patterns numbers at method parts slash (Some i) =
 abbrev pub IsWith : List Pattern → ℕ → List ℕ → List ℕ → Option ℕ → Type 0
 IsWith patterns depth key numbers None = (j : ℕ) → Contains numbers j → first_key (tail_at patterns depth j) ≡ key → ⊥
 IsWith patterns depth key numbers (Some i) = Contains numbers i × (first_key (tail_at patterns depth i) ≡ key)
+
+-- the number is one of these, and the segments of its pattern behind that many match these parts of a path
+unfoldable pub Remains : List Pattern → List ℕ → ℕ → List (List ℕ) → Bool → ℕ → Type 0
+Remains patterns numbers at parts slash i =
+    Contains numbers i × (p : Pattern) × IsAt patterns i p × SegsMatch (drop at p.segs.items) parts slash
+
+-- the list has what it had, and what is meant besides
+pub record IsAdded (P : ℕ → Type 0) (old new : List ℕ) : Type 0 where
+  pub within : (i : ℕ) → Contains new i → Contains old i ⊎ P i
+  pub kept : (i : ℕ) → Contains old i → Contains new i
+  pub added : (i : ℕ) → P i → Contains new i

@@ -9,5 +9,6 @@ pub mod Location
 pub mod Order
 pub mod Request
 pub mod Sent
+pub mod Served
 pub mod Table
 pub mod Walk

@@ -13,6 +13,7 @@ mod location;
 mod order;
 mod routing;
 mod sent;
+mod served;
 mod tree;
 mod walk;
 
