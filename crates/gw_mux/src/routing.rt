@@ -7,13 +7,14 @@ ghost use Rattle.gw_mux.specs.Answer.{Decides, Finds, Refuses, RefusesMethod, To
 ghost use Rattle.gw_mux.specs.Order.{IsOrder};
 ghost use Rattle.gw_mux.specs.Table.{ArePatterns, HasNoConflict, IsAt, IsTable};
 
-use crate::allowed::{allowed, is_served};
+use crate::allowed::allowed;
 use crate::answer::{Decision, Found, Hit, MuxError};
 use crate::best::{best, wants_slash};
 use crate::conflicts::first_conflict;
 use crate::location::location;
 use crate::order::order_of;
 use crate::sent::{SentPath, lengths_of};
+use crate::served::served;
 use crate::walk::{cut_slash, spans};
 use gw_pattern::{Pattern, clean, is_clean};
 use http::Method;
@@ -84,7 +85,8 @@ impl Mux {
         requires { IsClean path.now }
         ensures { IfOk result (λ methods. IsAllow self.now host.now path.now methods.items) }
     {
-        allowed(alloc, &self.patterns, host, path)
+        let served = served(alloc, &self.patterns, &self.order, host, path)?;
+        Ok(allowed(alloc, &self.patterns, &served)?)
     }
 
     /// What answers a request: a redirect to the cleaned path with a slash more, a redirect to the cleaned path, the
@@ -126,7 +128,7 @@ fn decide_clean(
     match found_in(patterns, order, method, host, path) {
         Found::Route(hit) => Ok(Decision::Route(hit)),
         Found::AddSlash => Ok(Decision::Redirect(location(alloc, path, true, query)?)),
-        Found::Nothing => decide_unmatched(alloc, patterns, host, path),
+        Found::Nothing => decide_unmatched(alloc, patterns, order, host, path),
     }
 }
 
@@ -134,16 +136,20 @@ fn decide_clean(
 fn decide_unmatched(
     alloc: Global,
     patterns: &[Pattern],
+    order: &[u32],
     host: &[u8],
     path: &[u8],
 ) -> Result<Decision, AllocError>
-    requires { IsClean path.now }
+    requires table { IsTable patterns.now }
+    requires order { IsOrder patterns.now order.now }
+    requires clean { IsClean path.now }
     ensures { IfOk result (RefusesMethod patterns.now host.now path.now) }
 {
-    if !is_served(patterns, host, path) {
+    let served = served(alloc, patterns, order, host, path)?;
+    if served.is_empty() {
         return Ok(Decision::NotFound);
     }
-    Ok(Decision::NotAllowed(allowed(alloc, patterns, host, path)?))
+    Ok(Decision::NotAllowed(allowed(alloc, patterns, &served)?))
 }
 
 // The decision for a path that is not clean.
