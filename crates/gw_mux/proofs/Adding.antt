@@ -110,8 +110,8 @@ module _ (patterns : List Pattern) (at : ℕ) (numbers : List ℕ) (node : IsNod
   added_stopped run old new is e =
       added_as (λ i. Contains run i) (Remains patterns numbers at [] false) old new
       (λ i c. let w = is.within i c in
-          let x = pattern_there patterns i (node.there i w.0) in
-          (w.0, x.0, x.1, subst (λ s. SegsMatch s [] false) (sym (no_head (drop at x.0.segs.items) x.0.method (key_in patterns at numbers node i x.0 here_key w x.1))) refl))
+      let x = pattern_there patterns i (node.there i w.0) in
+      (w.0, x.0, x.1, subst (λ s. SegsMatch s [] false) (sym (no_head (drop at x.0.segs.items) x.0.method (key_in patterns at numbers node i x.0 here_key w x.1))) refl))
       (λ i r. let k = in_key patterns at numbers node i r.1 here_key r.0 r.2 (ap (λ s. first_key (tail_keys s r.1.method)) (stopped (drop at r.1.segs.items) r.3)) in is.all i k.0 k.1)
       (added_run old run new e)
 
@@ -120,17 +120,17 @@ module _ (patterns : List Pattern) (at : ℕ) (numbers : List ℕ) (node : IsNod
   added_ended ends rests old mid new is_ends is_rests e f =
       added_both (λ i. Contains ends i) (λ i. Contains rests i) (Remains patterns numbers at [] true) old mid new
       (λ i r. ⊎_elim
-          (λ x. let k = in_key patterns at numbers node i r.1 (3 ∷ []) r.0 r.2 (ap (λ s. first_key (tail_keys s r.1.method)) x.1) in inl (is_ends.all i k.0 k.1))
-          (λ x. let k = in_key patterns at numbers node i r.1 (4 ∷ []) r.0 r.2 (ap (λ s. first_key (tail_keys s r.1.method)) x.2) in inr (is_rests.all i k.0 k.1))
-          (end_heads (drop at r.1.segs.items) r.3))
+      (λ x. let k = in_key patterns at numbers node i r.1 (3 ∷ []) r.0 r.2 (ap (λ s. first_key (tail_keys s r.1.method)) x.1) in inl (is_ends.all i k.0 k.1))
+      (λ x. let k = in_key patterns at numbers node i r.1 (4 ∷ []) r.0 r.2 (ap (λ s. first_key (tail_keys s r.1.method)) x.2) in inr (is_rests.all i k.0 k.1))
+      (end_heads (drop at r.1.segs.items) r.3))
       (λ i c. let w = is_ends.within i c in
-          let x = pattern_there patterns i (node.there i w.0) in
-          let h = end_head (drop at x.0.segs.items) x.0.method (key_in patterns at numbers node i x.0 (3 ∷ []) w x.1) in
-          (w.0, x.0, x.1, subst (λ s. SegsMatch s [] true) (sym h.1) refl))
+      let x = pattern_there patterns i (node.there i w.0) in
+      let h = end_head (drop at x.0.segs.items) x.0.method (key_in patterns at numbers node i x.0 (3 ∷ []) w x.1) in
+      (w.0, x.0, x.1, subst (λ s. SegsMatch s [] true) (sym h.1) refl))
       (λ i c. let w = is_rests.within i c in
-          let x = pattern_there patterns i (node.there i w.0) in
-          let h = rest_head (drop at x.0.segs.items) x.0.method (key_in patterns at numbers node i x.0 (4 ∷ []) w x.1) in
-          (w.0, x.0, x.1, subst (λ s. SegsMatch s [] true) (sym h.2) refl))
+      let x = pattern_there patterns i (node.there i w.0) in
+      let h = rest_head (drop at x.0.segs.items) x.0.method (key_in patterns at numbers node i x.0 (4 ∷ []) w x.1) in
+      (w.0, x.0, x.1, subst (λ s. SegsMatch s [] true) (sym h.2) refl))
       (added_run old ends mid e) (added_run mid rests new f)
 
 -- the same, said of the path of which a part was taken

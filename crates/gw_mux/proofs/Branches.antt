@@ -19,7 +19,7 @@ more_behind (k ∷ keys) more key (suc at) e = more_behind keys more key at e
 pub seg_label : (segs : List Seg) (method : Option (List ℕ)) (at : ℕ) (seg : Seg) → at < length segs → seg ≡ get_or segs at seg → drop at (tail_keys segs method) ≡ seg_key seg ∷ drop (suc at) (tail_keys segs method)
 seg_label segs method at seg within is =
     let e : drop at (tail_keys segs method) ≡ seg_key seg ∷ tail_keys (drop (suc at) segs) method =
-        drop_tail segs method at (omega (arith, within)) ∙ ap (λ s. tail_keys s method) (drop-cons segs at seg within) ∙ ap (λ s. seg_key s ∷ tail_keys (drop (suc at) segs) method) (sym is) in
+    drop_tail segs method at (omega (arith, within)) ∙ ap (λ s. tail_keys s method) (drop-cons segs at seg within) ∙ ap (λ s. seg_key s ∷ tail_keys (drop (suc at) segs) method) (sym is) in
     e ∙ ap (λ keys. seg_key seg ∷ keys) (sym (more_behind (tail_keys segs method) (tail_keys (drop (suc at) segs) method) (seg_key seg) at e))
 
 ended : (segs : List Seg) (method : Option (List ℕ)) → drop (length segs) (tail_keys segs method) ≡ here_key ∷ method_key method ∷ []

@@ -88,15 +88,15 @@ module _ (patterns : List Pattern) (at : ℕ) (numbers : List ℕ) (method : Lis
           (p, a, f.1.2, matched p (at + 1) x.0 parts slash (behind p.segs.items at (Literal part) x.0 x.1) x.2),
         ))
         (λ y. ⊎_elim
-            (λ x. inr (inl (
-              in_key patterns at numbers node j p (2 ∷ []) f.0 a (ap (λ s. first_key (tail_keys s p.method)) x.2),
-              (p, a, f.1.2, matched p (at + 1) x.1 parts slash (behind p.segs.items at (One x.0) x.1 x.2) x.3),
-            )))
-            (λ x. inr (inr (
-              in_key patterns at numbers node j p (4 ∷ []) f.0 a (ap (λ s. first_key (tail_keys s p.method)) x.2),
-              (p, a, f.1.2, matched p (at + 1) [] [] false (behind p.segs.items at (Rest x.0) x.1 x.2 ∙ rest_alone j p x.0 x.1 a x.2) refl),
-            )))
-            y)
+        (λ x. inr (inl (
+          in_key patterns at numbers node j p (2 ∷ []) f.0 a (ap (λ s. first_key (tail_keys s p.method)) x.2),
+          (p, a, f.1.2, matched p (at + 1) x.1 parts slash (behind p.segs.items at (One x.0) x.1 x.2) x.3),
+        )))
+        (λ x. inr (inr (
+          in_key patterns at numbers node j p (4 ∷ []) f.0 a (ap (λ s. first_key (tail_keys s p.method)) x.2),
+          (p, a, f.1.2, matched p (at + 1) [] [] false (behind p.segs.items at (Rest x.0) x.1 x.2 ∙ rest_alone j p x.0 x.1 a x.2) refl),
+        )))
+        y)
         (part_heads (drop at p.segs.items) part parts slash f.1.3)
 
     pub back_kid : (j : ℕ) → Kids j → Each j

@@ -91,8 +91,8 @@ module _ (patterns : List Pattern) (at : ℕ) (numbers run : List ℕ) (method :
   unfolding Fits
   by_none None none no_get h =
       λ j c f. let d = in_run j f.0 c f.1 f.3 in
-          let e = none_rank f.0.method f.2 (none_with (5 ∷ method) none j f.0 d f.1) (λ head. none_with (5 ∷ codes "GET") (no_get head) j f.0 d f.1) in
-          none_with (6 ∷ []) h j f.0 d f.1 (ap method_key e)
+      let e = none_rank f.0.method f.2 (none_with (5 ∷ method) none j f.0 d f.1) (λ head. none_with (5 ∷ codes "GET") (no_get head) j f.0 d f.1) in
+      none_with (6 ∷ []) h j f.0 d f.1 (ap method_key e)
   by_none (Some i) none no_get h =
       chosen None i tt h (λ p e. no_method p.method e)
       (λ j q c a m. subst (λ o. IsAhead (relation_of_methods None o) [] []) (sym (none_rank q.method m (none_with (5 ∷ method) none j q c a) (λ head. none_with (5 ∷ codes "GET") (no_get head) j q c a))) none_none)

@@ -141,13 +141,13 @@ module _ (patterns : List Pattern) (depth : ℕ) (key numbers run : List ℕ) (f
       ⊎_elim
       (λ below. let low : is_lt (place patterns depth key i) ≡ true = subst (λ j. is_lt (place patterns depth key j) ≡ true) c.2 (h.0 c.0 i (omega arith) below) in absurd (cc))
       (λ up. ⊎_elim
-          (λ below.
-              let k = c.0 - from in
-              let whole : from + k ≡ c.0 = omega (arith, up) in
-              let short : k < length run = omega (arith, below, up) in
-              (k, short, same k i short ∙ ap (λ n. get_or numbers n i) whole ∙ c.2))
-          (λ past. let high : is_le (place patterns depth key i) ≡ false = subst (λ j. is_le (place patterns depth key j) ≡ false) c.2 (gt c.0 i past c.1) in absurd (cc))
-          (lt_or_ge c.0 (from + length run)))
+      (λ below.
+      let k = c.0 - from in
+      let whole : from + k ≡ c.0 = omega (arith, up) in
+      let short : k < length run = omega (arith, below, up) in
+      (k, short, same k i short ∙ ap (λ n. get_or numbers n i) whole ∙ c.2))
+      (λ past. let high : is_le (place patterns depth key i) ≡ false = subst (λ j. is_le (place patterns depth key j) ≡ false) c.2 (gt c.0 i past c.1) in absurd (cc))
+      (lt_or_ge c.0 (from + length run)))
       (lt_or_ge c.0 from)
 
   pub run_is : IsSortedFrom patterns depth numbers → IsRun patterns depth key numbers run
@@ -168,6 +168,6 @@ searched_run patterns depth key numbers rest run from n e f in_from in_rest h k 
     h
     (λ i d lt. subst (λ j. is_le (place patterns depth key j) ≡ true) (behind i d) (k.0 i d (omega arith) (omega (arith, lt, short))))
     (λ i d past within.
-        let whole : from + (i - from) ≡ i = omega (arith, past) in
-        subst (λ j. is_le (place patterns depth key j) ≡ false) (behind (i - from) d ∙ ap (λ n. get_or numbers n d) whole) (k.1 (i - from) d (omega (arith, past, short)) (omega (arith, within, lengths, past))))
+    let whole : from + (i - from) ≡ i = omega (arith, past) in
+    subst (λ j. is_le (place patterns depth key j) ≡ false) (behind (i - from) d ∙ ap (λ n. get_or numbers n d) whole) (k.1 (i - from) d (omega (arith, past, short)) (omega (arith, within, lengths, past))))
     sorted

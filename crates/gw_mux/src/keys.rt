@@ -11,7 +11,12 @@ use http::Method;
 use std::cmp::Ordering;
 
 /// How the branch at that depth of the pattern of that number lies to the one that is looked for.
-pub(crate) fn compare_branch(patterns: &[Pattern], number: u32, depth: usize, asked: &Asked<'_>) -> Ordering
+pub(crate) fn compare_branch(
+    patterns: &[Pattern],
+    number: u32,
+    depth: usize,
+    asked: &Asked<'_>,
+) -> Ordering
     ensures { result ≡ slice_cmp nat_cmp (first_key (tail_at patterns.now depth number)) (asked_key asked.now) }
 {
     let Some(pattern) = patterns.get(number as usize) else {

@@ -23,7 +23,12 @@ pub(crate) fn order_of(alloc: Global, patterns: &[Pattern]) -> Result<Vec<u32>, 
 }
 
 /// The run of those numbers whose branch at that depth is the one that is looked for.
-pub(crate) fn run_of<'n>(patterns: &[Pattern], numbers: &'n [u32], depth: usize, asked: &Asked<'_>) -> &'n [u32]
+pub(crate) fn run_of<'n>(
+    patterns: &[Pattern],
+    numbers: &'n [u32],
+    depth: usize,
+    asked: &Asked<'_>,
+) -> &'n [u32]
     requires { IsSortedFrom patterns.now depth numbers.now }
     ensures { IsRun patterns.now depth (asked_key asked.now) numbers.now result.now }
 {

@@ -103,9 +103,25 @@ impl Mux {
         ensures { IfOk result (Decides self.now method.now host.now path.now (bytes_of query.entry)) }
     {
         if is_clean(path) {
-            decide_clean(alloc, &self.patterns, &self.order, method, host, path, query)
+            decide_clean(
+                alloc,
+                &self.patterns,
+                &self.order,
+                method,
+                host,
+                path,
+                query,
+            )
         } else {
-            redirect(alloc, &self.patterns, &self.order, method, host, path, query)
+            redirect(
+                alloc,
+                &self.patterns,
+                &self.order,
+                method,
+                host,
+                path,
+                query,
+            )
         }
     }
 }
@@ -179,13 +195,7 @@ fn adds_slash(found: &Found) -> bool
 }
 
 // What a clean path finds in a list of patterns.
-fn found_in(
-    patterns: &[Pattern],
-    order: &[u32],
-    method: &[u8],
-    host: &[u8],
-    path: &[u8],
-) -> Found
+fn found_in(patterns: &[Pattern], order: &[u32], method: &[u8], host: &[u8], path: &[u8]) -> Found
     requires table { IsTable patterns.now }
     requires order { IsOrder patterns.now order.now }
     requires clean { IsClean path.now }

@@ -66,8 +66,8 @@ fn first_ended(
     if let Some(first) = first_stopped(patterns, ends, at + 1, method) {
         return Some(first);
     }
-    let rests = run_of(patterns, numbers, at + 1, &Asked::Label(Label::Rest));
-    first_stopped(patterns, rests, at + 1, method)
+    let all = run_of(patterns, numbers, at + 1, &Asked::Label(Label::Rest));
+    first_stopped(patterns, all, at + 1, method)
 }
 
 // Of the patterns whose segments end there the first whose method fits: the method's own, before that of GET where HEAD
@@ -94,5 +94,7 @@ fn first_with(patterns: &[Pattern], numbers: &[u32], depth: usize, label: Label<
     requires { IsSortedFrom patterns.now depth numbers.now }
     ensures { IsWith patterns.now depth (key_of label.entry) numbers.now result }
 {
-    run_of(patterns, numbers, depth, &Asked::Label(label)).first().copied()
+    run_of(patterns, numbers, depth, &Asked::Label(label))
+        .first()
+        .copied()
 }

@@ -22,5 +22,5 @@ returns c =
     let i = get_or ns 0 0 in (
       (i, (c.in_ok-served.ensures i).0 (Contains-get_or ns 0 0 (omega (arith, ne)))),
       allow_from c.args.patterns.now c.args.host.now c.args.path.now ns c.in_ok-allowed.field-0.items c.in_ok-served.ensures
-      (subst (λ xs. AreAllowed c.args.patterns.now xs c.in_ok-allowed.field-0.items) c.deref.ensures.value c.in_ok-allowed.ensures),
+          (subst (λ xs. AreAllowed c.args.patterns.now xs c.in_ok-allowed.field-0.items) c.deref.ensures.value c.in_ok-allowed.ensures),
     )

@@ -10,17 +10,29 @@ use Rattle.gw_mux.proofs.served.+add_below.Goals as goal
 
 pub add_below-requires : goal.add_below-requires
 add_below-requires t c =
-    let h = c.in-Some.ensures in
-    (omega (arith, c.decreases, h.takes.1), (c.requires.table, (
-      node_behind c.args.patterns.now c.args.at c.args.numbers.now c.requires.node (1 ∷ percent_decode c.in-Some.part.now) c.run_of-kids.result.now c.run_of-kids.ensures (says_literal (percent_decode c.in-Some.part.now)),
-      (h.lengths, omega (arith, h.takes.1, c.requires.deep)))))
+    let h = c.in-Some.ensures in (
+      omega (arith, c.decreases, h.takes.1),
+      (
+        c.requires.table,
+        (
+          node_behind c.args.patterns.now c.args.at c.args.numbers.now c.requires.node (1 ∷ percent_decode c.in-Some.part.now) c.run_of-kids.result.now c.run_of-kids.ensures (says_literal (percent_decode c.in-Some.part.now)),
+          (h.lengths, omega (arith, h.takes.1, c.requires.deep)),
+        ),
+      ),
+    )
 
 pub add_below-requires-2 : goal.add_below-requires-2
 add_below-requires-2 t c =
-    let h = c.in-Some.ensures in
-    (omega (arith, c.decreases, h.takes.1), (c.requires.table, (
-      node_behind c.args.patterns.now c.args.at c.args.numbers.now c.requires.node (2 ∷ []) c.run_of-ones.result.now c.run_of-ones.ensures says_one,
-      (h.lengths, omega (arith, h.takes.1, c.requires.deep)))))
+    let h = c.in-Some.ensures in (
+      omega (arith, c.decreases, h.takes.1),
+      (
+        c.requires.table,
+        (
+          node_behind c.args.patterns.now c.args.at c.args.numbers.now c.requires.node (2 ∷ []) c.run_of-ones.result.now c.run_of-ones.ensures says_one,
+          (h.lengths, omega (arith, h.takes.1, c.requires.deep)),
+        ),
+      ),
+    )
 
 pub returns-then-is_empty : goal.returns-then-is_empty
 unfolding Remains

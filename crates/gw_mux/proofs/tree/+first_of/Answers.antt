@@ -9,17 +9,29 @@ use Rattle.gw_mux.proofs.tree.+first_of.Goals as goal
 
 pub first_of-requires : goal.first_of-requires
 first_of-requires t c =
-    let h = c.in-Some.ensures in
-    (omega (arith, c.decreases, h.takes.1), (c.requires.formed, (
-      node_behind c.args.patterns.now c.args.at c.args.numbers.now c.requires.node (1 ∷ percent_decode c.in-Some.part.now) c.run_of-kids.result.now c.run_of-kids.ensures (says_literal (percent_decode c.in-Some.part.now)),
-      (h.lengths, omega (arith, h.takes.1, c.requires.deep)))))
+    let h = c.in-Some.ensures in (
+      omega (arith, c.decreases, h.takes.1),
+      (
+        c.requires.formed,
+        (
+          node_behind c.args.patterns.now c.args.at c.args.numbers.now c.requires.node (1 ∷ percent_decode c.in-Some.part.now) c.run_of-kids.result.now c.run_of-kids.ensures (says_literal (percent_decode c.in-Some.part.now)),
+          (h.lengths, omega (arith, h.takes.1, c.requires.deep)),
+        ),
+      ),
+    )
 
 pub first_of-requires-2 : goal.first_of-requires-2
 first_of-requires-2 t c =
-    let h = c.in-Some.ensures in
-    (omega (arith, c.decreases, h.takes.1), (c.requires.formed, (
-      node_behind c.args.patterns.now c.args.at c.args.numbers.now c.requires.node (2 ∷ []) c.run_of-ones.result.now c.run_of-ones.ensures says_one,
-      (h.lengths, omega (arith, h.takes.1, c.requires.deep)))))
+    let h = c.in-Some.ensures in (
+      omega (arith, c.decreases, h.takes.1),
+      (
+        c.requires.formed,
+        (
+          node_behind c.args.patterns.now c.args.at c.args.numbers.now c.requires.node (2 ∷ []) c.run_of-ones.result.now c.run_of-ones.ensures says_one,
+          (h.lengths, omega (arith, h.takes.1, c.requires.deep)),
+        ),
+      ),
+    )
 
 pub returns-in-Some-first_of : goal.returns-in-Some-first_of
 returns-in-Some-first_of t c =

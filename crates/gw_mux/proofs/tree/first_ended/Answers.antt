@@ -11,7 +11,7 @@ first_stopped-requires-2-clause-node c =
 
 pub first_stopped-requires-3-clause-node : goal.first_stopped-requires-3-clause-node
 first_stopped-requires-3-clause-node c =
-    node_behind c.args.patterns.now c.args.at c.args.numbers.now c.requires.node (4 ∷ []) c.run_of-rests.result.now c.run_of-rests.ensures says_rest
+    node_behind c.args.patterns.now c.args.at c.args.numbers.now c.requires.node (4 ∷ []) c.run_of-all.result.now c.run_of-all.ensures says_rest
 
 pub returns-in-Some : goal.returns-in-Some
 returns-in-Some c =
@@ -31,9 +31,9 @@ returns c =
     let ns = c.args.numbers.now in
     let m = c.args.method.now in
     let ends = c.run_of-ends.result.now in
-    let rests = c.run_of-rests.result.now in
+    let rests = c.run_of-all.result.now in
     let none = subst (λ r. IsFirst ps ends (at + 1) m [] false r) c.in_default.is c.first_stopped-2.ensures in
     subst (λ s. IsFirst ps ns at m [] s c.first_stopped-3.result) (sym c.if-not-slash.false)
     (by_left ps at ns m c.requires.formed c.requires.node c.first_stopped-3.result
     (run_first ps at ns (3 ∷ []) ends m [] false None c.run_of-ends.ensures none)
-    (run_first ps at ns (4 ∷ []) rests m [] false c.first_stopped-3.result c.run_of-rests.ensures c.first_stopped-3.ensures))
+    (run_first ps at ns (4 ∷ []) rests m [] false c.first_stopped-3.result c.run_of-all.ensures c.first_stopped-3.ensures))
