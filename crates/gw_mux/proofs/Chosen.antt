@@ -52,7 +52,7 @@ best_of_own patterns a i h =
     (inl h.1, λ j c ne. ⊎_elim (λ t. h.2 j (take_within patterns a a.host j t) t ne) (λ t. absurd (t.1 i h.1)) c)
 
 -- what has no host takes whatever host is asked for
-free_host : (own host : List ℕ) → own ≡ [] → HostMatches own host
+pub free_host : (own host : List ℕ) → own ≡ [] → HostMatches own host
 free_host [] host e = tt
 free_host (b ∷ own) host e = cc
 

@@ -26,7 +26,7 @@ proper_at : (patterns : List Pattern) (i : ℕ) (p : Pattern) → AreProper patt
 proper_at patterns i p h at =
     subst IsProper (get_or_from_slice_get patterns i p p at) (h i p (slice_get_within patterns i p at))
 
-compared : (p q : Pattern) → IsProper p → IsProper q → Holds Asked (whole_relation p.method q.method p.host q.host p.segs.items q.segs.items) (Requests p) (Requests q)
+pub compared : (p q : Pattern) → IsProper p → IsProper q → Holds Asked (whole_relation p.method q.method p.host q.host p.segs.items q.segs.items) (Requests p) (Requests q)
 compared p q h k =
     compared_holds Asked (Requests p) (Requests q) (whole_relation p.method q.method p.host q.host p.segs.items q.segs.items)
     (requests_compared p.method q.method p.host q.host p.segs.items q.segs.items h.method k.method h.host k.host (has_segments p.segs.items h.segs) (has_segments q.segs.items k.segs))
@@ -55,7 +55,7 @@ same_host patterns a i j c d =
     (λ t. ⊎_elim (λ u. absurd (t.1 j u)) (λ u. ([], t.0, u.0)) d)
     c
 
-apart_numbers : (i j : ℕ) → i ≢ j → (i < j) ⊎ (j < i)
+pub apart_numbers : (i j : ℕ) → i ≢ j → (i < j) ⊎ (j < i)
 apart_numbers i j ne = ⊎_elim (λ e. inl (ltb-true i j e)) (λ e. let h = ltb-false i j e in inr (omega arith)) (cases_Bool (ltb i j))
 
 pub candidates_ordered : (patterns : List Pattern) (a : Asked) (i j : ℕ) → AreProper patterns → HasNoConflict patterns → IsShape a → IsCandidate patterns a i → IsCandidate patterns a j → i ≢ j → IsMoreSpecific patterns i j ⊎ IsMoreSpecific patterns j i

@@ -21,7 +21,7 @@ below_trans X A B C f g = (λ x a. g.0 x (f.0 x a), (g.1.0, g.1.1, λ a. g.1.2 (
 below_asym : (X : Type 0) (A B : X → Type 0) → IsBelow X A B → IsBelow X B A → ⊥
 below_asym X A B f g = f.1.2 (g.0 f.1.0 f.1.1)
 
-ordered : (p q : Pattern) (r : Relation) (a : Asked) → Holds Asked r (Requests p) (Requests q) → Requests p a → Requests q a → p.host ≡ q.host → (Conflicts p q → ⊥) → MatchBool (is_more_general r) (IsBelow Asked (Requests q) (Requests p)) (IsBelow Asked (Requests p) (Requests q))
+pub ordered : (p q : Pattern) (r : Relation) (a : Asked) → Holds Asked r (Requests p) (Requests q) → Requests p a → Requests q a → p.host ≡ q.host → (Conflicts p q → ⊥) → MatchBool (is_more_general r) (IsBelow Asked (Requests q) (Requests p)) (IsBelow Asked (Requests p) (Requests q))
 ordered p q Equal a h m n e apart = absurd (apart (e, (a, m, n), (λ k. k.1.2 (h.1 k.1.0 k.1.1)), (λ k. k.1.2 (h.0 k.1.0 k.1.1))))
 ordered p q MoreSpecific a h m n e apart = h
 ordered p q MoreGeneral a h m n e apart = h

@@ -1,5 +1,5 @@
 -- Which patterns serve a path, and which methods they allow.
-use Rattle.std.proofs.Common.{◌≡◌, ◌↔◌, IsTrue, ℕ, ◌+◌, ◌<◌, Bool, true, false, not, ◌&&◌, ◌||◌, List, [], ◌∷◌, ◌++◌, eqb, Option, Some, None, codes, ◌⊎◌, inl, inr, ⊎_elim, if◌then◌else◌, sym, refl, subst, ap, ◌∙◌, arith}
+use Rattle.std.proofs.Common.{◌≡◌, ◌↔◌, IsTrue, ℕ, ◌+◌, ◌<◌, Bool, true, false, not, ◌&&◌, ◌||◌, List, [], ◌∷◌, ◌++◌, slice_index, eqb, Option, Some, None, codes, ◌⊎◌, inl, inr, ⊎_elim, if◌then◌else◌, sym, refl, subst, ap, ◌∙◌, arith}
 use Rattle.std.specs.Bool.{Decides}
 use Rattle.std.specs.List.{Contains}
 use Rattle.std.proofs.lemmas.List.Elements.{Contains-append_left, Contains-append_right, Contains-append_cases, Contains-push, Contains-push_cases}
@@ -9,7 +9,7 @@ use Rattle.gw_pattern.specs.declared.form.Pattern.{Pattern}
 use Rattle.gw_sets.specs.Comparison.{is_get, matches_host, matches_segs}
 use Rattle.gw_sets.specs.Matches.{HostMatches, MethodMatches, SegsMatch}
 use Rattle.gw_sets.proofs.Deciding.{host_decides, segs_decide}
-use Rattle.gw_mux.specs.Allow.{AreAllowedBelow, DoesServe, ServesPath, named_methods}
+use Rattle.gw_mux.specs.Allow.{AreNamed, DoesServe, HasGained, ServesPath, named_methods}
 use Rattle.gw_mux.specs.Table.{IsAt}
 use Rattle.gw_mux.specs.Walk.{segments_in}
 use Rattle.gw_mux.proofs.Conflicting.{same_at}
@@ -17,22 +17,10 @@ use Rattle.gw_mux.proofs.Paths.{IsSeen}
 
 -- ---- the tests
 
--- the host, the path, whether it ends in a slash, and the path with one more
-abbrev pub served_by : Bool → Bool → Bool → Bool → Bool
-served_by h m s n = h && (m || (not s && n))
-
-abbrev Served : Type 0 → Type 0 → Bool → Type 0 → Type 0
+abbrev pub Served : Type 0 → Type 0 → Bool → Type 0 → Type 0
 Served H M s N = H × (M ⊎ ((s ≡ false) × N))
 
-served_decide : (h m s n : Bool) (H M N : Type 0) → Decides h H → Decides m M → Decides n N → IsTrue (served_by h m s n) ↔ Served H M s N
-served_decide false m s n H M N d e f = (λ t. let differ : false ≡ true = t in cc, λ k. d.1 k.0)
-served_decide true true s n H M N d e f = (λ t. (d.0 refl, inl (e.0 refl)), λ k. refl)
-served_decide true false false n H M N d e f =
-    (λ t. (d.0 refl, inr (refl, f.0 t)), λ k. ⊎_elim (λ x. let differ : false ≡ true = e.1 x in cc) (λ y. f.1 y.1) k.1)
-served_decide true false true n H M N d e f =
-    (λ t. let differ : false ≡ true = t in cc, λ k. ⊎_elim (λ x. e.1 x) (λ y. let differ : true ≡ false = y.0 in cc) k.1)
-
-to_serve : (p : Pattern) (host path body : List ℕ) (slash : Bool) → IsSeen [] host path body slash → Served (HostMatches p.host host) (SegsMatch p.segs.items (segments_in body) slash) slash (SegsMatch p.segs.items (segments_in body) true) → ServesPath p host path
+pub to_serve : (p : Pattern) (host path body : List ℕ) (slash : Bool) → IsSeen [] host path body slash → Served (HostMatches p.host host) (SegsMatch p.segs.items (segments_in body) slash) slash (SegsMatch p.segs.items (segments_in body) true) → ServesPath p host path
 unfolding ServesPath DoesServe
 to_serve p host path body slash s k =
     ⊎_elim
@@ -40,32 +28,13 @@ to_serve p host path body slash s k =
     (λ m. inr (s.ends ∙ m.0, subst (λ a. HostMatches p.host a.host × SegsMatch p.segs.items a.segs a.slash) (sym (s.more m.0)) (k.0, m.1)))
     k.1
 
-from_served : (p : Pattern) (host path body : List ℕ) (slash : Bool) → IsSeen [] host path body slash → ServesPath p host path → Served (HostMatches p.host host) (SegsMatch p.segs.items (segments_in body) slash) slash (SegsMatch p.segs.items (segments_in body) true)
+pub from_served : (p : Pattern) (host path body : List ℕ) (slash : Bool) → IsSeen [] host path body slash → ServesPath p host path → Served (HostMatches p.host host) (SegsMatch p.segs.items (segments_in body) slash) slash (SegsMatch p.segs.items (segments_in body) true)
 unfolding ServesPath DoesServe
 from_served p host path body slash s k =
     ⊎_elim
     (λ d. let x = subst (λ a. HostMatches p.host a.host × SegsMatch p.segs.items a.segs a.slash) s.same d in (x.0, inl x.1))
     (λ d. let e : slash ≡ false = sym s.ends ∙ d.0 in let x = subst (λ a. HostMatches p.host a.host × SegsMatch p.segs.items a.segs a.slash) (s.more e) d.1 in (x.0, inr (e, x.1)))
     k
-
-pub serves_decided : (p : Pattern) (host path body : List ℕ) (slash r : Bool) → IsSeen [] host path body slash → served_by (matches_host p.host host) (matches_segs p.segs.items (segments_in body) slash) slash (matches_segs p.segs.items (segments_in body) true) ≡ r → IsTrue r ↔ ServesPath p host path
-serves_decided p host path body slash r s e =
-    let d = served_decide (matches_host p.host host) (matches_segs p.segs.items (segments_in body) slash) slash (matches_segs p.segs.items (segments_in body) true)
-    (HostMatches p.host host) (SegsMatch p.segs.items (segments_in body) slash) (SegsMatch p.segs.items (segments_in body) true)
-    (host_decides p.host host) (segs_decide p.segs.items (segments_in body) slash) (segs_decide p.segs.items (segments_in body) true) in
-    (λ t. to_serve p host path body slash s (d.0 (e ∙ t)), λ k. sym e ∙ d.1 (from_served p host path body slash s k))
-
-pub by_host : (h m s n : Bool) → h ≡ false → served_by h m s n ≡ false
-by_host h m s n a = rw a
-
-pub by_path : (h m s n : Bool) → h ≡ true → m ≡ true → served_by h m s n ≡ true
-by_path h m s n a b = rw (a, b)
-
-pub by_more : (h m s n : Bool) → h ≡ true → m ≡ false → s ≡ false → served_by h m s n ≡ n
-by_more h m s n a b d = rw (a, b, d)
-
-pub by_slash : (h m s n : Bool) → h ≡ true → m ≡ false → s ≡ true → served_by h m s n ≡ false
-by_slash h m s n a b d = rw (a, b, d)
 
 -- ---- methods
 
@@ -101,38 +70,54 @@ named_of (Some own) m h = (own, refl, (named_is own m).0 h)
 to_named : (method : Option (List ℕ)) (own m : List ℕ) → method ≡ Some own → MethodMatches (Some own) m → Contains (named_methods method) m
 to_named method own m e h = subst (λ x. Contains (named_methods x) m) (sym e) ((named_is own m).1 h)
 
--- ---- one pattern more
+-- ---- one number more
 
-pub allowed_none : (patterns : List Pattern) (host path : List ℕ) → AreAllowedBelow patterns host path 0 []
-allowed_none patterns host path = λ m. (λ h. absurd (omega (arith, h.1)), λ h. absurd (omega (arith, h.7)))
+pub named_none : (patterns : List Pattern) (numbers : List ℕ) → AreNamed patterns numbers 0 []
+named_none patterns numbers = λ m. (λ h. absurd (omega (arith, h.1)), λ h. absurd (omega (arith, h.6)))
 
 same_or_below : (i n : ℕ) → i < n + 1 → (i ≡ n) ⊎ (i < n)
 same_or_below i n h = ⊎_elim (λ e. inl (eqb-true i n e)) (λ e. let ne = eqb-false i n e in inr (omega arith)) (cases_Bool (eqb i n))
 
--- the pattern of a number that serves, where that of another one does not, has a lower number
-lower : (patterns : List Pattern) (host path : List ℕ) (n i : ℕ) (p q : Pattern) → IsAt patterns n p → IsAt patterns i q → (ServesPath p host path → ⊥) → ServesPath q host path → i < n + 1 → i < n
-lower patterns host path n i p q at at' out served h =
-    ⊎_elim
-    (λ e. absurd (out (subst (λ x. ServesPath x host path) (same_at patterns n q p (subst (λ x. IsAt patterns x q) e at') at) served)))
-    (λ e. e)
-    (same_or_below i n h)
-
-pub allowed_skip : (patterns : List Pattern) (host path : List ℕ) (n : ℕ) (p : Pattern) (methods : List (List ℕ)) → IsAt patterns n p → (ServesPath p host path → ⊥) → AreAllowedBelow patterns host path n methods → AreAllowedBelow patterns host path (n + 1) methods
-allowed_skip patterns host path n p methods at out h =
-    λ m. (
-      λ c. let k = (h m).0 c in (k.0, k.1, k.2, k.3, k.4, k.5, k.6, omega (arith, k.7)),
-      λ k. (h m).1 (k.0, k.1, k.2, k.3, k.4, k.5, k.6, lower patterns host path n k.0 p k.1 at k.3 out k.5 k.7),
-    )
-
-pub allowed_next : (patterns : List Pattern) (host path : List ℕ) (n : ℕ) (p : Pattern) (methods : List (List ℕ)) → IsAt patterns n p → ServesPath p host path → AreAllowedBelow patterns host path n methods → AreAllowedBelow patterns host path (n + 1) (methods ++ named_methods p.method)
-allowed_next patterns host path n p methods at served h =
+pub named_next : (patterns : List Pattern) (numbers : List ℕ) (n : ℕ) (p : Pattern) (old new : List (List ℕ)) → IsAt patterns (slice_index numbers n) p → HasGained old (named_methods p.method) new → AreNamed patterns numbers n old → AreNamed patterns numbers (n + 1) new
+named_next patterns numbers n p old new at gained h =
     λ m. (
       λ c. ⊎_elim
-          (λ x. let k = (h m).0 x in (k.0, k.1, k.2, k.3, k.4, k.5, k.6, omega (arith, k.7)))
-          (λ x. let k = named_of p.method m x in (n, p, k.0, at, k.1, served, k.2, omega arith))
-          (Contains-append_cases methods (named_methods p.method) m c),
-      λ k. ⊎_elim
-          (λ e. Contains-append_right methods (named_methods p.method) m (to_named p.method k.2 m (ap (λ x. x.method) (same_at patterns n p k.1 at (subst (λ x. IsAt patterns x k.1) e k.3)) ∙ k.4) k.6))
-          (λ e. Contains-append_left methods (named_methods p.method) m ((h m).1 (k.0, k.1, k.2, k.3, k.4, k.5, k.6, e)))
-          (same_or_below k.0 n k.7),
+          (λ x. let k = (h m).0 x in (k.0, k.1, k.2, k.3, k.4, k.5, omega (arith, k.6)))
+          (λ x. let k = named_of p.method m x in (n, p, k.0, at, k.1, k.2, omega arith))
+          ((gained m).0 c),
+      λ k. (gained m).1 (⊎_elim
+          (λ e. inr (to_named p.method k.2 m (ap (λ x. x.method) (same_at patterns (slice_index numbers n) p k.1 at (subst (λ x. IsAt patterns (slice_index numbers x) k.1) e k.3)) ∙ k.4) k.5))
+          (λ e. inl ((h m).1 (k.0, k.1, k.2, k.3, k.4, k.5, e)))
+          (same_or_below k.0 n k.6)),
     )
+
+pub gained_both : (old mid new : List (List ℕ)) (a b : List ℕ) → HasGained old (a ∷ []) mid → HasGained mid (b ∷ []) new → HasGained old (a ∷ b ∷ []) new
+gained_both old mid new a b h k m = (
+  λ c. ⊎_elim
+      (λ x. ⊎_elim (λ y. inl y) (λ y. inr (Contains-append_left (a ∷ []) (b ∷ []) m y)) ((h m).0 x))
+      (λ x. inr (Contains-append_right (a ∷ []) (b ∷ []) m x))
+      ((k m).0 c),
+  λ c. (k m).1 (⊎_elim
+      (λ x. inl ((h m).1 (inl x)))
+      (λ x. ⊎_elim (λ y. inl ((h m).1 (inr y))) (λ y. inr y) (Contains-append_cases (a ∷ []) (b ∷ []) m x))
+      c),
+)
+
+pub gained_pushed : (old new : List (List ℕ)) (a : List ℕ) → new ≡ old ++ a ∷ [] → HasGained old (a ∷ []) new
+gained_pushed old new a e m = (
+  λ c. Contains-append_cases old (a ∷ []) m (subst (λ l. Contains l m) e c),
+  λ c. subst (λ l. Contains l m) (sym e) (⊎_elim (λ x. Contains-append_left old (a ∷ []) m x) (λ x. Contains-append_right old (a ∷ []) m x) c),
+)
+
+pub gained_there : (old : List (List ℕ)) (a : List ℕ) → Contains old a → HasGained old (a ∷ []) old
+gained_there old a h m = (λ c. inl c, λ c. ⊎_elim (λ x. x) (λ x. subst (λ y. Contains old y) (one_more a m x) h) c)
+
+pub gained_none : (old : List (List ℕ)) → HasGained old [] old
+gained_none old m = (λ c. inl c, λ c. ⊎_elim (λ x. x) (λ x. absurd (omega (arith, x.1))) c)
+
+pub gained_get : (old mid new : List (List ℕ)) (own : List ℕ) → is_get own ≡ true → HasGained old (own ∷ []) mid → HasGained mid (codes "HEAD" ∷ []) new → HasGained old (named_methods (Some own)) new
+gained_get old mid new own e h k =
+    subst (λ b. HasGained old (if b then own ∷ codes "HEAD" ∷ [] else own ∷ []) new) (sym e) (gained_both old mid new own (codes "HEAD") h k)
+
+pub gained_other : (old new : List (List ℕ)) (own : List ℕ) → is_get own ≡ false → HasGained old (own ∷ []) new → HasGained old (named_methods (Some own)) new
+gained_other old new own e h = subst (λ b. HasGained old (if b then own ∷ codes "HEAD" ∷ [] else own ∷ []) new) (sym e) h

@@ -1,5 +1,5 @@
 -- Which methods a path allows (RFC 9110, section 10.2.1).
-use Rattle.std.specs.Prelude.{◌≡◌, ℕ, ◌<◌, false, ◌⊎◌, List, [], ◌∷◌, Option, Some, None, Contains, ◌↔◌, if◌then◌else◌, codes}
+use Rattle.std.specs.Prelude.{◌≡◌, ℕ, ◌<◌, length, slice_index, false, ◌⊎◌, List, [], ◌∷◌, Option, Some, None, Contains, ◌↔◌, if◌then◌else◌, codes}
 use Rattle.std.specs.Ordering.{nat_cmp}
 use Rattle.std.specs.Cmp.Lexicographic.{slice_cmp}
 use Rattle.std.specs.List.Sorted.{IsStrictlySortedBy}
@@ -44,10 +44,19 @@ abbrev pub named_methods : Option (List ℕ) → List (List ℕ)
 named_methods None = []
 named_methods (Some own) = if is_get own then own ∷ codes "HEAD" ∷ [] else own ∷ []
 
--- the methods that the patterns below that number allow
-abbrev pub AreAllowedBelow : List Pattern → List ℕ → List ℕ → ℕ → List (List ℕ) → Type 0
-AreAllowedBelow patterns host path n methods =
+-- the list has what it had, and these besides
+abbrev pub HasGained : List (List ℕ) → List (List ℕ) → List (List ℕ) → Type 0
+HasGained old more new = (method : List ℕ) → Contains new method ↔ (Contains old method ⊎ Contains more method)
+
+-- the methods that the patterns of the first so many of the numbers allow
+abbrev pub AreNamed : List Pattern → List ℕ → ℕ → List (List ℕ) → Type 0
+AreNamed patterns numbers n methods =
     (method : List ℕ)
     → Contains methods method
-    ↔ ((i : ℕ) × (p : Pattern) × (own : List ℕ)
-    × IsAt patterns i p × (p.method ≡ Some own) × ServesPath p host path × MethodMatches (Some own) method × (i < n))
+    ↔ ((k : ℕ) × (p : Pattern) × (own : List ℕ)
+    × IsAt patterns (slice_index numbers k) p × (p.method ≡ Some own) × MethodMatches (Some own) method × (k < n))
+
+-- the same of all of them, each method once, sorted by their bytes
+abbrev pub AreAllowed : List Pattern → List ℕ → List (List ℕ) → Type 0
+AreAllowed patterns numbers methods =
+    IsStrictlySortedBy (slice_cmp nat_cmp) methods × AreNamed patterns numbers (length numbers) methods

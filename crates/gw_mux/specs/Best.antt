@@ -3,16 +3,11 @@ use Rattle.std.specs.Prelude.{◌≡◌, ◌≢◌, ℕ, ◌<◌, Bool, true, fa
 use Rattle.gw_pattern.specs.declared.form.Pattern.{Pattern}
 use Rattle.gw_sets.specs.declared.relation.Relation.{Relation}
 use Rattle.gw_sets.specs.declared.relation.Relation.TheVariants.{Equal, MoreSpecific, MoreGeneral, Disjoint, Overlap}
-use Rattle.gw_sets.specs.Shape.{Asked, IsShape}
-use Rattle.gw_sets.specs.Matches.{Matches}
+use Rattle.gw_sets.specs.Shape.{Asked}
 use Rattle.gw_mux.specs.Decision.{DoesTake, HasExactBest, IsBest, IsCandidate, IsMoreSpecific}
 use Rattle.gw_mux.specs.Request.{is_exact}
 use Rattle.gw_mux.specs.Walk.{asked_by}
 use Rattle.gw_mux.specs.Table.{IsAt}
-
--- the pattern has the request's host bytes, and matches
-abbrev pub DoesMatch : Pattern → Asked → Type 0
-DoesMatch p a = (p.host ≡ a.host) × Matches p a
 
 -- among the patterns below a number: none has the request's host bytes and matches, or that is the most specific
 abbrev pub IsChosen : List Pattern → Asked → ℕ → Option ℕ → Type 0
@@ -25,16 +20,6 @@ IsChosen patterns a n (Some i) =
 abbrev pub IsAnswered : List Pattern → Asked → Option ℕ → Type 0
 IsAnswered patterns a None = (i : ℕ) → IsCandidate patterns a i → ⊥
 IsAnswered patterns a (Some i) = IsBest patterns a i
-
--- both have the host bytes of a request, and match it
-abbrev pub AreRivals : List Pattern → ℕ → ℕ → Type 0
-AreRivals patterns first second =
-    (a : Asked) × IsShape a × DoesTake patterns a a.host first × DoesTake patterns a a.host second
-
--- the one of the two that is more specific than the other
-abbrev pub Prevails : List Pattern → ℕ → ℕ → ℕ → Type 0
-Prevails patterns first second k =
-    ((k ≡ first) × IsMoreSpecific patterns first second) ⊎ ((k ≡ second) × IsMoreSpecific patterns second first)
 
 abbrev pub is_more_general : Relation → Bool
 is_more_general Equal = false

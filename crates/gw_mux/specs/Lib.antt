@@ -1,8 +1,14 @@
 pub mod Answer
 pub mod Best
+pub mod Keys
+pub mod Found
+pub mod Label
 pub mod Allow
 pub mod Decision
 pub mod Location
+pub mod Order
 pub mod Request
+pub mod Sent
+pub mod Served
 pub mod Table
 pub mod Walk

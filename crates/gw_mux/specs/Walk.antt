@@ -1,7 +1,5 @@
 -- What the walk over a path sees of it.
-use Rattle.std.specs.Prelude.{◌≡◌, ℕ, ◌+◌, Bool, true, false, List, [], ◌∷◌, ◌++◌, length, map, bytes_eq}
-use Rattle.gw_pattern.specs.declared.form.Seg.{Seg}
-use Rattle.gw_pattern.specs.declared.form.Seg.TheVariants.{Literal, One, Rest, End}
+use Rattle.std.specs.Prelude.{◌≡◌, ℕ, ◌+◌, Bool, true, false, List, [], ◌∷◌, ◌++◌, length, map}
 use Rattle.gw_pattern.specs.Path.{slash, ends_in_slash}
 use Rattle.percent_encoding.specs.Percent.{percent_decode}
 use Rattle.gw_sets.specs.Shape.{Asked}
@@ -18,13 +16,6 @@ asked_by method host body slash = record { method = method; host = host; segs = 
 -- the path begins with a slash and that part, and the rest follows
 abbrev pub TakesPart : List ℕ → List ℕ → List ℕ → Type 0
 TakesPart path part after = (parts_in path ≡ part ∷ parts_in after) × (length part + 1 + length after ≡ length path)
-
--- the segment takes that part of a path as sent, and leaves what follows
-abbrev pub takes_sent : Seg → List ℕ → Bool
-takes_sent (Literal bytes) part = bytes_eq (percent_decode part) bytes
-takes_sent (One name) part = true
-takes_sent (Rest name) part = false
-takes_sent End part = false
 
 -- the path without its last slash, and whether it has one
 abbrev pub CutsSlash : List ℕ → List ℕ → Bool → Type 0

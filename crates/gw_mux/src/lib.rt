@@ -6,9 +6,15 @@ mod allowed;
 mod answer;
 mod best;
 mod conflicts;
+mod keys;
+mod label;
 mod laws;
 mod location;
+mod order;
 mod routing;
+mod sent;
+mod served;
+mod tree;
 mod walk;
 
 pub use answer::{Decision, Found, Hit, MuxError, Spans};

@@ -4,13 +4,17 @@ ghost use Rattle.gw_pattern.specs.Path.{IsClean};
 ghost use Rattle.gw_sets.specs.Comparison.{bytes_of};
 ghost use Rattle.gw_mux.specs.Allow.{IsAllow};
 ghost use Rattle.gw_mux.specs.Answer.{Decides, Finds, Refuses, RefusesMethod, TookSpans, adds_slash};
+ghost use Rattle.gw_mux.specs.Order.{IsOrder};
 ghost use Rattle.gw_mux.specs.Table.{ArePatterns, HasNoConflict, IsAt, IsTable};
 
-use crate::allowed::{allowed, is_served};
+use crate::allowed::allowed;
 use crate::answer::{Decision, Found, Hit, MuxError};
 use crate::best::{best, wants_slash};
 use crate::conflicts::first_conflict;
 use crate::location::location;
+use crate::order::order_of;
+use crate::sent::{SentPath, lengths_of};
+use crate::served::served;
 use crate::walk::{cut_slash, spans};
 use gw_pattern::{Pattern, clean, is_clean};
 use http::Method;
@@ -21,6 +25,7 @@ use std::marker::Model;
 #[derive(Debug, Drop)]
 pub struct Mux {
     patterns: Vec<Pattern>,
+    order: Vec<u32>,
 }
 
 impl Model for Mux {
@@ -31,15 +36,16 @@ impl Model for Mux {
 
     ghost view = { λ m. m.patterns.items };
 
+    ghost use Rattle.gw_mux.specs.Order.{IsOrder};
     ghost use Rattle.gw_mux.specs.Table.{IsTable};
 
-    ghost invariant = { λ m. IsTable m.patterns.items };
+    ghost invariant = { λ m. IsTable m.patterns.items × IsOrder m.patterns.items m.order.items };
 }
 
 impl Mux {
     /// A router over the patterns, in which each keeps its place in the list as its number, from 0. Where patterns
     /// conflict the first conflict is the error; want of memory is the only other one.
-    pub fn build(_alloc: Global, patterns: Vec<Pattern>) -> Result<Mux, MuxError>
+    pub fn build(alloc: Global, patterns: Vec<Pattern>) -> Result<Mux, MuxError>
         requires { ArePatterns patterns.items }
         ensures { MatchResult result (λ mux. (mux ≡ patterns.items) × HasNoConflict mux) (Refuses patterns.items) }
     {
@@ -49,7 +55,10 @@ impl Mux {
                 second: second as u32,
             });
         }
-        Ok(Mux { patterns })
+        let Ok(order) = order_of(alloc, &patterns) else {
+            return Err(MuxError::NoMemory);
+        };
+        Ok(Mux { patterns, order })
     }
 
     /// The pattern of that number, counted from 0; `None` exactly where there are no more. Takes no memory.
@@ -66,7 +75,7 @@ impl Mux {
         requires { IsClean path.now }
         ensures { Finds self.now method.now host.now path.now result }
     {
-        found_in(&self.patterns, method, host, path)
+        found_in(&self.patterns, &self.order, method, host, path)
     }
 
     /// The methods of the patterns that match the clean path, or this with a slash more where it ends in none, but for
@@ -76,7 +85,8 @@ impl Mux {
         requires { IsClean path.now }
         ensures { IfOk result (λ methods. IsAllow self.now host.now path.now methods.items) }
     {
-        allowed(alloc, &self.patterns, host, path)
+        let served = served(alloc, &self.patterns, &self.order, host, path)?;
+        Ok(allowed(alloc, &self.patterns, &served)?)
     }
 
     /// What answers a request: a redirect to the cleaned path with a slash more, a redirect to the cleaned path, the
@@ -93,9 +103,25 @@ impl Mux {
         ensures { IfOk result (Decides self.now method.now host.now path.now (bytes_of query.entry)) }
     {
         if is_clean(path) {
-            decide_clean(alloc, &self.patterns, method, host, path, query)
+            decide_clean(
+                alloc,
+                &self.patterns,
+                &self.order,
+                method,
+                host,
+                path,
+                query,
+            )
         } else {
-            redirect(alloc, &self.patterns, method, host, path, query)
+            redirect(
+                alloc,
+                &self.patterns,
+                &self.order,
+                method,
+                host,
+                path,
+                query,
+            )
         }
     }
 }
@@ -104,19 +130,21 @@ impl Mux {
 fn decide_clean(
     alloc: Global,
     patterns: &[Pattern],
+    order: &[u32],
     method: &[u8],
     host: &[u8],
     path: &[u8],
     query: Option<&[u8]>,
 ) -> Result<Decision, AllocError>
     requires table { IsTable patterns.now }
+    requires order { IsOrder patterns.now order.now }
     requires clean { IsClean path.now }
     ensures { IfOk result (Decides patterns.now method.now host.now path.now (bytes_of query.entry)) }
 {
-    match found_in(patterns, method, host, path) {
+    match found_in(patterns, order, method, host, path) {
         Found::Route(hit) => Ok(Decision::Route(hit)),
         Found::AddSlash => Ok(Decision::Redirect(location(alloc, path, true, query)?)),
-        Found::Nothing => decide_unmatched(alloc, patterns, host, path),
+        Found::Nothing => decide_unmatched(alloc, patterns, order, host, path),
     }
 }
 
@@ -124,33 +152,39 @@ fn decide_clean(
 fn decide_unmatched(
     alloc: Global,
     patterns: &[Pattern],
+    order: &[u32],
     host: &[u8],
     path: &[u8],
 ) -> Result<Decision, AllocError>
-    requires { IsClean path.now }
+    requires table { IsTable patterns.now }
+    requires order { IsOrder patterns.now order.now }
+    requires clean { IsClean path.now }
     ensures { IfOk result (RefusesMethod patterns.now host.now path.now) }
 {
-    if !is_served(patterns, host, path) {
+    let served = served(alloc, patterns, order, host, path)?;
+    if served.is_empty() {
         return Ok(Decision::NotFound);
     }
-    Ok(Decision::NotAllowed(allowed(alloc, patterns, host, path)?))
+    Ok(Decision::NotAllowed(allowed(alloc, patterns, &served)?))
 }
 
 // The decision for a path that is not clean.
 fn redirect(
     alloc: Global,
     patterns: &[Pattern],
+    order: &[u32],
     method: &[u8],
     host: &[u8],
     path: &[u8],
     query: Option<&[u8]>,
 ) -> Result<Decision, AllocError>
     requires table { IsTable patterns.now }
+    requires order { IsOrder patterns.now order.now }
     requires unclean { IsClean path.now → ⊥ }
     ensures { IfOk result (Decides patterns.now method.now host.now path.now (bytes_of query.entry)) }
 {
     let clean = clean(alloc, path)?;
-    let adds_slash = adds_slash(&found_in(patterns, method, host, &clean));
+    let adds_slash = adds_slash(&found_in(patterns, order, method, host, &clean));
     Ok(Decision::Redirect(location(alloc, &clean, adds_slash, query)?))
 }
 
@@ -161,31 +195,38 @@ fn adds_slash(found: &Found) -> bool
 }
 
 // What a clean path finds in a list of patterns.
-fn found_in(patterns: &[Pattern], method: &[u8], host: &[u8], path: &[u8]) -> Found
+fn found_in(patterns: &[Pattern], order: &[u32], method: &[u8], host: &[u8], path: &[u8]) -> Found
     requires table { IsTable patterns.now }
+    requires order { IsOrder patterns.now order.now }
     requires clean { IsClean path.now }
     ensures { Finds patterns.now method.now host.now path.now result }
 {
     let (body, slash) = cut_slash(path);
-    let best = best(patterns, method, host, body, slash);
-    if wants_slash(patterns, best, method, host, body, slash) {
+    let lengths = lengths_of(body);
+    let sent = SentPath {
+        body,
+        lengths: lengths.as_slice(),
+        slash,
+    };
+    let best = best(patterns, order, method, host, sent);
+    if wants_slash(patterns, order, best, method, host, sent) {
         return Found::AddSlash;
     }
     match best {
-        Some(i) => Found::Route(hit(patterns, i, path)),
+        Some(route) => Found::Route(hit(patterns, route, path)),
         None => Found::Nothing,
     }
 }
 
 // The hit of that pattern.
-fn hit(patterns: &[Pattern], i: usize, path: &[u8]) -> Hit
+fn hit(patterns: &[Pattern], route: u32, path: &[u8]) -> Hit
     requires table { IsTable patterns.now }
-    requires within { i < length patterns.now }
-    ensures route { result.route ≡ i }
-    ensures spans { TookSpans patterns.now i path.now result.spans }
+    requires within { route < length patterns.now }
+    ensures route { result.route ≡ route }
+    ensures spans { TookSpans patterns.now route path.now result.spans }
 {
     Hit {
-        route: i as u32,
-        spans: spans(&patterns[i].segs, path),
+        route,
+        spans: spans(&patterns[route as usize].segs, path),
     }
 }

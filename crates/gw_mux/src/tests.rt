@@ -445,7 +445,7 @@ fn slow_methods(
     requires { All IsWellFormed patterns.now }
 {
     let mut text = String::new(alloc);
-    for method in ["DELETE", "GET", "HEAD", "POST"] {
+    for method in ["DELETE", "GET", "HEAD", "POST", "PUT"] {
         if is_allowed(alloc, patterns, method, host, path)?
             || !path.ends_with('/') && is_allowed(alloc, patterns, method, host, slashed)?
         {
@@ -514,6 +514,58 @@ fn agrees(
         other => push_other(&mut text, other)?,
     }
     Ok(text.as_str() == slowly(alloc, patterns, method, host, path)?.as_str())
+}
+
+// The texts of 1,024 patterns: eight for each of 128 first segments.
+fn numbered_text(alloc: Global, number: usize) -> Result<String, AllocError> {
+    let k = number / 8;
+    match number % 8 {
+        0 => format!(in alloc; "GET /k{k}/a"),
+        1 => format!(in alloc; "GET /k{k}/{{x}}"),
+        2 => format!(in alloc; "HEAD /k{k}/a"),
+        3 if k % 2 == 0 => format!(in alloc; "/k{k}/"),
+        3 => format!(in alloc; "PUT /k{k}/{{x}}/b/c"),
+        4 => format!(in alloc; "POST /k{k}/{{x}}/b"),
+        5 => format!(in alloc; "h/k{k}/{{x...}}"),
+        6 => format!(in alloc; "GET h/k{k}/{{x}}/{{y}}"),
+        _ => format!(in alloc; "DELETE /k{k}/{{$}}"),
+    }
+}
+
+fn numbered_patterns(alloc: Global) -> Result<Vec<Pattern>, PatternError>
+    ensures { IfOk result (λ patterns. ArePatterns patterns.items) }
+{
+    let mut patterns = Vec::new(alloc);
+    for i in 0..1024 {
+        let text = numbered_text(alloc, i)?;
+        patterns.push(parse(alloc, text.as_str())?)?;
+    }
+    Ok(patterns)
+}
+
+#[test]
+fn many_decide_as_defined(rt: HostRuntime) -> Result<(), Fail> {
+    let alloc = rt.alloc();
+    let (Ok(patterns), Ok(kept)) = (numbered_patterns(alloc), numbered_patterns(alloc)) else {
+        return Err("no patterns".into());
+    };
+    let Ok(mux) = Mux::build(alloc, patterns) else {
+        return Err("no router".into());
+    };
+    for k in [0, 57, 127] {
+        for end in [
+            "", "/", "/a", "/z", "/a/", "/z/b", "/z/b/c", "/z/q/r", "/../k1/a",
+        ] {
+            let path = format!(in alloc; "/k{k}{end}")?;
+            for method in ["GET", "HEAD", "POST", "DELETE"] {
+                for host in ["", "h", "g"] {
+                    let same = agrees(alloc, &mux, &kept, method, host, path.as_str())?;
+                    assert!(rt; same, "{method} {host}{path}");
+                }
+            }
+        }
+    }
+    Ok(())
 }
 
 #[test]

@@ -1,15 +1,12 @@
-//! Patterns against a path as it is sent: the walk makes no list of its segments, and decodes escapes on its way.
-ghost use Rattle.std.specs.Prelude.{◌≡◌, ◌<◌, ◌≤◌, [], IfSome, MatchOption, bytes_eq, length, position};
-ghost use Rattle.percent_encoding.specs.Percent.{percent_decode};
+//! Patterns against a path as it is sent: the walk makes no list of its segments.
+ghost use Rattle.std.specs.Prelude.{◌≡◌, ◌<◌, ◌≤◌, [], IfSome, MatchOption, length, position};
 ghost use Rattle.gw_pattern.specs.Path.{is_slash};
 ghost use Rattle.gw_pattern.specs.Pattern.{wildcard_count};
-ghost use Rattle.gw_sets.specs.Comparison.{matches_segs};
 ghost use Rattle.gw_mux.specs.Request.{is_exact, spans_of};
-ghost use Rattle.gw_mux.specs.Walk.{CutsSlash, TakesPart, segments_in, takes_sent};
+ghost use Rattle.gw_mux.specs.Walk.{CutsSlash, TakesPart, segments_in};
 
 use crate::answer::Spans;
 use gw_pattern::Seg;
-use percent_encoding::percent_decode;
 
 /// The path without its last slash, and whether it has one.
 pub(crate) fn cut_slash(path: &[u8]) -> (&[u8], bool)
@@ -19,28 +16,6 @@ pub(crate) fn cut_slash(path: &[u8]) -> (&[u8], bool)
         [body @ .., b'/'] => (body, true),
         _ => (path, false),
     }
-}
-
-/// Whether the segments match the path, which is given without its last slash. Takes no memory.
-pub(crate) fn matches_path(segs: &[Seg], body: &[u8], slash: bool) -> bool
-    ensures { result ≡ matches_segs segs.now (segments_in body.now) slash }
-{
-    let mut left = body;
-    for seg in segs {
-        match seg {
-            Seg::End => return left.is_empty() && slash,
-            Seg::Rest(_) => return !left.is_empty() || slash,
-            Seg::Literal(_) | Seg::One(_) => {}
-        }
-        let Some((part, after)) = next_part(left) else {
-            return false;
-        };
-        if !takes_part(seg, part) {
-            return false;
-        }
-        left = after;
-    }
-    left.is_empty() && !slash
 }
 
 /// Whether the segments, which match the path, leave nothing of it to a `Rest`.
@@ -90,8 +65,8 @@ pub(crate) fn spans(segs: &[Seg], path: &[u8]) -> Spans
     spans
 }
 
-// The part behind the slash with which the path begins, and what follows it.
-fn next_part(path: &[u8]) -> Option<(&[u8], &[u8])>
+/// The part behind the slash with which the path begins, and what follows it.
+pub(crate) fn next_part(path: &[u8]) -> Option<(&[u8], &[u8])>
     ensures { MatchOption result (path.now ≡ []) (λ x. TakesPart path.now x.0.now x.1.now) }
 {
     let [_, tail @ ..] = path else {
@@ -109,30 +84,4 @@ fn slash_in(bytes: &[u8]) -> Option<usize>
     ensures within { IfSome result (λ at. at < length bytes.now) }
 {
     bytes.iter().position(|b| *b == b'/')
-}
-
-// The segment takes that part of a path as sent, and leaves what follows.
-fn takes_part(seg: &Seg, part: &[u8]) -> bool
-    ensures { result ≡ takes_sent seg.now part.now }
-{
-    match seg {
-        Seg::Literal(bytes) => decodes_to(part, bytes.as_slice()),
-        Seg::One(_) => true,
-        Seg::Rest(_) | Seg::End => false,
-    }
-}
-
-fn decodes_to(part: &[u8], bytes: &[u8]) -> bool
-    ensures { result ≡ bytes_eq (percent_decode part.now) bytes.now }
-{
-    let mut decoded = percent_decode(part);
-    for expected in bytes {
-        let Some(b) = decoded.next() else {
-            return false;
-        };
-        if b != *expected {
-            return false;
-        }
-    }
-    decoded.next().is_none()
 }

@@ -1,33 +1,25 @@
-use Rattle.std.proofs.Common.{◌≡◌, ◌+◌, ◌++◌, length, sym, ap, ◌∙◌, subst, arith}
-use Rattle.gw_mux.specs.Allow.{AreAllowedBelow, named_methods}
-use Rattle.gw_mux.proofs.Conflicting.{at_read, same_at}
-use Rattle.gw_mux.proofs.Serving.{allowed_none, allowed_skip, allowed_next}
+use Rattle.std.proofs.Common.{◌≡◌, ◌<◌, ◌+◌, length, get_or, slice_index, sym, subst, ap, ◌∙◌, arith}
+use Rattle.gw_mux.specs.Allow.{AreNamed, HasGained, named_methods}
+use Rattle.gw_mux.specs.Table.{IsAt}
+use Rattle.gw_mux.proofs.Conflicting.{at_read}
+use Rattle.gw_mux.proofs.Serving.{named_next, named_none}
 use Rattle.gw_mux.proofs.allowed.methods_of.Goals as goal
-use Rattle.gw_mux.proofs.allowed.methods_of.Goals.{then-serves+in_ok-add_method, else-serves}
 
 pub loop-i-init : goal.loop-i-init
 loop-i-init c =
-    subst (λ ms. AreAllowedBelow c.args.patterns.now c.args.host.now c.args.path.now 0 ms) (sym c.new-methods.ensures.items) (allowed_none c.args.patterns.now c.args.host.now c.args.path.now)
+    subst (λ ms. AreNamed c.args.patterns.now c.args.served.now 0 ms) (sym c.new-methods.ensures.items) (named_none c.args.patterns.now c.args.served.now)
 
 pub loop-i-preserved : goal.loop-i-preserved
 loop-i-preserved c =
     let ps = c.args.patterns.now in
-    let host = c.args.host.now in
-    let path = c.args.path.now in
-    let n = c.loop-i.i in
+    let ns = c.args.served.now in
+    let n = c.loop-i.i-index in
     let p = c.index-patterns-i.result in
-    let at = at_read ps n p c.loop-i-test.true c.index-patterns-i.is in
-    elim c.if-serves.branch [
-      | then-serves+in_ok-add_method w ↦
-          let q = w.index-patterns-i-then-serves.result in
-          let at' = at_read ps n q c.loop-i-test.true w.index-patterns-i-then-serves.is in
-          let e = w.in_ok-add_method.ensures ∙ ap (λ x. c.loop-i.methods.items ++ named_methods x.method) (sym w.index-patterns-i-then-serves.is ∙ same_at ps n q p at' at) in
-          subst (λ ms. AreAllowedBelow ps host path (n + 1) ms.items) (sym w.methods-is) (subst (λ ms. AreAllowedBelow ps host path (n + 1) ms) (sym e) (allowed_next ps host path n p c.loop-i.methods.items at (c.serves.ensures.0 w.if-serves.true) c.loop-i.invariant))
-      | else-serves w ↦
-          subst (λ ms. AreAllowedBelow ps host path (n + 1) ms.items) (sym w.methods-is) (allowed_skip ps host path n p c.loop-i.methods.items at (λ t. let e = c.serves.ensures.1 t in cc (e, w.if-serves.false)) c.loop-i.invariant)
-    ]
+    let at = at_read ps (slice_index ns n) p (c.requires n 0 c.loop-i-test.true) c.index-patterns-i.is in
+    named_next ps ns n p c.loop-i.methods.items c.add_method.new.methods.items at
+    (subst (λ m. HasGained c.loop-i.methods.items (named_methods m) c.add_method.new.methods.items) (ap (λ x. x.method) (sym c.index-patterns-i.is)) c.in_ok-add_method.ensures) c.loop-i.invariant
 
 pub returns : goal.returns
 returns c =
-    let e : c.loop-i.i ≡ length c.args.patterns.now = omega (arith, c.loop-i-test.false, c.loop-i.auto.i-end) in
-    subst (λ n. AreAllowedBelow c.args.patterns.now c.args.host.now c.args.path.now n c.loop-i.methods.items) e c.loop-i.invariant
+    let e : c.loop-i.i-index ≡ length c.args.served.now = omega (arith, c.loop-i-test.false, c.loop-i.auto.i-index-end) in
+    subst (λ n. AreNamed c.args.patterns.now c.args.served.now n c.loop-i.methods.items) e c.loop-i.invariant

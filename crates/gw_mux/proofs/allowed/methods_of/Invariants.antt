@@ -1,5 +1,5 @@
-use Rattle.gw_mux.specs.Allow.{AreAllowedBelow}
+use Rattle.gw_mux.specs.Allow.{AreNamed}
 use Rattle.gw_mux.proofs.allowed.methods_of.Given as goal
 
 abbrev pub invariant-loop-i : goal.invariant-loop-i
-invariant-loop-i l = AreAllowedBelow l.patterns l.host l.path l.i l.methods.items
+invariant-loop-i l = AreNamed l.patterns l.served l.i-index l.methods.items

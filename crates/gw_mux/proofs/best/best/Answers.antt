@@ -7,11 +7,11 @@ use Rattle.gw_mux.proofs.best.best.Goals as goal
 pub returns-in-Some : goal.returns-in-Some
 returns-in-Some c =
     let ps = c.args.patterns.now in
-    let a = asked_by c.args.method.now c.args.host.now c.args.body.now c.args.slash in
+    let a = asked_by c.args.method.now c.args.host.now c.args.path.body.now c.args.path.slash in
     best_of_own ps a c.in-Some.best (subst (λ x. IsChosen ps a (length ps) x) c.in-Some.is c.best_with_host.ensures)
 
 pub returns-in-None : goal.returns-in-None
 returns-in-None c =
     let ps = c.args.patterns.now in
-    let a = asked_by c.args.method.now c.args.host.now c.args.body.now c.args.slash in
+    let a = asked_by c.args.method.now c.args.host.now c.args.path.body.now c.args.path.slash in
     best_of_free ps a c.best_with_host-in-None.result (subst (λ x. IsChosen ps a (length ps) x) c.in-None.is c.best_with_host.ensures) c.best_with_host-in-None.ensures

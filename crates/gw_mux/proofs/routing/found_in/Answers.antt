@@ -43,7 +43,7 @@ hit-requires-clause-within c =
     let body = c.cut_slash-slash.result.0.now in
     let slash = c.cut_slash-slash.result.1 in
     let a = asked_by c.args.method.now c.args.host.now body slash in
-    answered_within c.args.patterns.now a (Some c.in-Some.i) (subst (λ x. IsAnswered c.args.patterns.now a x) c.in-Some.is c.best-best.ensures)
+    answered_within c.args.patterns.now a (Some c.in-Some.route) (subst (λ x. IsAnswered c.args.patterns.now a x) c.in-Some.is c.best-best.ensures)
 
 pub returns-in-Some : goal.returns-in-Some
 returns-in-Some c =
@@ -55,7 +55,7 @@ returns-in-Some c =
     let slash = c.cut_slash-slash.result.1 in
     let a = asked_by method host body slash in
     let s = seen method host path body slash c.requires.clean c.cut_slash-slash.ensures in
-    let best = best_seen ps method host path body slash c.in-Some.i s (subst (λ x. IsAnswered ps a x) c.in-Some.is c.best-best.ensures) in (
+    let best = best_seen ps method host path body slash c.in-Some.route s (subst (λ x. IsAnswered ps a x) c.in-Some.is c.best-best.ensures) in (
       λ w. let e = c.wants_slash.ensures.1 (wants_by ps method host path body slash s w) in cc (e, c.if-wants_slash.false),
       (subst (λ i. IsBest ps (asked_for method host path) i) (sym c.hit.ensures.route) best, subst (λ i. TookSpans ps i path c.hit.result.spans) (sym c.hit.ensures.route) c.hit.ensures.spans),
     )
