@@ -37,8 +37,10 @@ fn limits() -> Limits
 }
 
 fn given_up<L: Leases<u64>>(pool: &mut L, t: Ticket) -> Option<u64>
-    requires { (L.lent pool.old).out ≡ ticket_of t.want ∷ [] }
+    requires out { (L.lent pool.old).out ≡ ticket_of t.want ∷ [] }
+    requires running { (L.lent pool.old).ended ≡ false }
     ensures out { (L.lent pool.new).out ≡ [] }
+    ensures running { (L.lent pool.new).ended ≡ false }
     ensures legal { IsLegal (L.lent pool.new).limits (L.lent pool.new).seen }
 {
     let Put { close: _ } = pool.cancel(t, 7);
@@ -48,9 +50,11 @@ fn given_up<L: Leases<u64>>(pool: &mut L, t: Ticket) -> Option<u64>
 /// Wants, dials and drops a connection with the link number 40, and says which was dropped.
 fn exchange<L: Leases<u64>>(pool: &mut L) -> Option<u64>
     requires out { (L.lent pool.old).out ≡ [] }
+    requires running { (L.lent pool.old).ended ≡ false }
     requires host { 0 < (L.lent pool.old).limits.hosts }
     requires few { 0 < (L.lent pool.old).limits.per_pass }
     ensures out { (L.lent pool.new).out ≡ [] }
+    ensures running { (L.lent pool.new).ended ≡ false }
     ensures legal { IsLegal (L.lent pool.new).limits (L.lent pool.new).seen }
 {
     let t = match pool.want(0, 7) {
@@ -113,9 +117,11 @@ fn opened_and_closed(rt: HostRuntime) -> Result<(), Fail> {
 /// left to be closed, and None where there was no connection.
 fn round_trip<L: Leases<u64>>(pool: &mut L, host: u32, link: u64, now: u64) -> Option<Option<u64>>
     requires out { (L.lent pool.old).out ≡ [] }
+    requires running { (L.lent pool.old).ended ≡ false }
     requires host { host < (L.lent pool.old).limits.hosts }
     requires few { 0 < (L.lent pool.old).limits.per_pass }
     ensures out { (L.lent pool.new).out ≡ [] }
+    ensures running { (L.lent pool.new).ended ≡ false }
     ensures limits { (L.lent pool.new).limits ≡ (L.lent pool.old).limits }
 {
     let t = match pool.want(host, now) {
@@ -143,8 +149,10 @@ fn round_trip<L: Leases<u64>>(pool: &mut L, host: u32, link: u64, now: u64) -> O
 }
 
 fn nothing<L: Leases<u64>>(pool: &mut L, t: Ticket) -> Option<Option<u64>>
-    requires { (L.lent pool.old).out ≡ ticket_of t.want ∷ [] }
+    requires out { (L.lent pool.old).out ≡ ticket_of t.want ∷ [] }
+    requires running { (L.lent pool.old).ended ≡ false }
     ensures out { (L.lent pool.new).out ≡ [] }
+    ensures running { (L.lent pool.new).ended ≡ false }
     ensures limits { (L.lent pool.new).limits ≡ (L.lent pool.old).limits }
 {
     let Put { close: _ } = pool.cancel(t, 7);
@@ -154,7 +162,9 @@ fn nothing<L: Leases<u64>>(pool: &mut L, t: Ticket) -> Option<Option<u64>>
 fn given_back<C: Link, L: Leases<C>>(pool: &mut L, l: Lease<C>, now: u64) -> Option<Option<C>>
     requires lease { LeaseOf C.link (L.lent pool.old) l }
     requires out { (L.lent pool.old).out ≡ leased (ticket_of l.want) ∷ [] }
+    requires running { (L.lent pool.old).ended ≡ false }
     ensures out { (L.lent pool.new).out ≡ [] }
+    ensures running { (L.lent pool.new).ended ≡ false }
     ensures limits { (L.lent pool.new).limits ≡ (L.lent pool.old).limits }
 {
     let Put { close } = pool.give_back(l, now);

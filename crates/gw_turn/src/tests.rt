@@ -4,7 +4,7 @@ mod machine;
 mod replay_tests;
 mod units;
 
-ghost use Rattle.std.specs.Prelude.{◌≡◌, ◌<◌, ◌∷◌, []};
+ghost use Rattle.std.specs.Prelude.{◌≡◌, ◌<◌, ◌∷◌, [], false};
 ghost use Rattle.gw_pool.specs.Tokens.{ticket_of};
 
 use crate::desk::Desk;
@@ -43,11 +43,12 @@ fn limits(passes: u32, journal: u32) -> Limits
 /// Wants a connection to host 0.
 fn made<R: Wait + Abort>(rt: &R, pool: &Pool<u64>, pass: &mut Pass) -> Ticket
     requires of { pass.old.pool ≡ pool.now }
+    requires running { pass.old.lent.ended ≡ false }
     requires host { 0 < pass.old.lent.limits.hosts }
     requires few { 0 < pass.old.lent.limits.per_pass }
     requires free { pass.old.lent.out ≡ [] }
     ensures out { pass.new.lent.out ≡ ticket_of result.want ∷ [] }
-    ensures stays { (pass.new.pool ≡ pass.old.pool) × (pass.new.joined ≡ pass.old.joined) × (pass.new.lent.limits ≡ pass.old.lent.limits) × (pass.new.lent.number ≡ pass.old.lent.number) }
+    ensures stays { (pass.new.pool ≡ pass.old.pool) × (pass.new.joined ≡ pass.old.joined) × (pass.new.lent.limits ≡ pass.old.lent.limits) × (pass.new.lent.number ≡ pass.old.lent.number) × (pass.new.lent.ended ≡ pass.old.lent.ended) }
 {
     let mut desk = Desk { rt, pool, pass };
     match desk.want(0, 0) {
@@ -60,10 +61,11 @@ fn made<R: Wait + Abort>(rt: &R, pool: &Pool<u64>, pass: &mut Pass) -> Ticket
 /// Asks for a want that may dial.
 fn granted<R: Wait + Abort>(rt: &R, pool: &Pool<u64>, pass: &mut Pass, t: Ticket) -> Ticket
     requires of { pass.old.pool ≡ pool.now }
+    requires running { pass.old.lent.ended ≡ false }
     requires out { pass.old.lent.out ≡ ticket_of t.want ∷ [] }
     ensures same { result ≡ t }
     ensures out { pass.new.lent.out ≡ pass.old.lent.out }
-    ensures stays { (pass.new.pool ≡ pass.old.pool) × (pass.new.joined ≡ pass.old.joined) × (pass.new.lent.limits ≡ pass.old.lent.limits) × (pass.new.lent.number ≡ pass.old.lent.number) }
+    ensures stays { (pass.new.pool ≡ pass.old.pool) × (pass.new.joined ≡ pass.old.joined) × (pass.new.lent.limits ≡ pass.old.lent.limits) × (pass.new.lent.number ≡ pass.old.lent.number) × (pass.new.lent.ended ≡ pass.old.lent.ended) }
 {
     let mut desk = Desk { rt, pool, pass };
     match desk.ask(t) {
@@ -86,10 +88,11 @@ fn granted<R: Wait + Abort>(rt: &R, pool: &Pool<u64>, pass: &mut Pass, t: Ticket
 /// Asks for a want that isn't served yet.
 fn not_yet<R: Wait + Abort>(rt: &R, pool: &Pool<u64>, pass: &mut Pass, t: Ticket) -> Ticket
     requires of { pass.old.pool ≡ pool.now }
+    requires running { pass.old.lent.ended ≡ false }
     requires out { pass.old.lent.out ≡ ticket_of t.want ∷ [] }
     ensures same { result ≡ t }
     ensures out { pass.new.lent.out ≡ pass.old.lent.out }
-    ensures stays { (pass.new.pool ≡ pass.old.pool) × (pass.new.joined ≡ pass.old.joined) × (pass.new.lent.limits ≡ pass.old.lent.limits) × (pass.new.lent.number ≡ pass.old.lent.number) }
+    ensures stays { (pass.new.pool ≡ pass.old.pool) × (pass.new.joined ≡ pass.old.joined) × (pass.new.lent.limits ≡ pass.old.lent.limits) × (pass.new.lent.number ≡ pass.old.lent.number) × (pass.new.lent.ended ≡ pass.old.lent.ended) }
 {
     let mut desk = Desk { rt, pool, pass };
     match desk.ask(t) {
@@ -112,9 +115,10 @@ fn not_yet<R: Wait + Abort>(rt: &R, pool: &Pool<u64>, pass: &mut Pass, t: Ticket
 /// Begins the dial of a want that may dial, which fails.
 fn dial_fails<R: Wait + Abort>(rt: &R, pool: &Pool<u64>, pass: &mut Pass, t: Ticket)
     requires of { pass.old.pool ≡ pool.now }
+    requires running { pass.old.lent.ended ≡ false }
     requires out { pass.old.lent.out ≡ ticket_of t.want ∷ [] }
     ensures out { pass.new.lent.out ≡ [] }
-    ensures stays { (pass.new.pool ≡ pass.old.pool) × (pass.new.joined ≡ pass.old.joined) × (pass.new.lent.limits ≡ pass.old.lent.limits) × (pass.new.lent.number ≡ pass.old.lent.number) }
+    ensures stays { (pass.new.pool ≡ pass.old.pool) × (pass.new.joined ≡ pass.old.joined) × (pass.new.lent.limits ≡ pass.old.lent.limits) × (pass.new.lent.number ≡ pass.old.lent.number) × (pass.new.lent.ended ≡ pass.old.lent.ended) }
 {
     let mut desk = Desk { rt, pool, pass };
     match desk.start(&t) {
@@ -198,10 +202,10 @@ fn work_both<R: Threads + Wait + Abort + Sync>(
     two: Pass,
     thread: u64,
 ) -> ((Pass, Counts), (Pass, Counts))
-    requires one { (one.pool ≡ pool.now) × (one.lent.limits.hosts ≡ 2) × (0 < one.lent.limits.per_pass) × (one.lent.out ≡ []) }
-    requires two { (two.pool ≡ pool.now) × (two.lent.limits.hosts ≡ 2) × (0 < two.lent.limits.per_pass) × (two.lent.out ≡ []) }
-    ensures one { (result.0.0.lent.out ≡ []) × (result.0.0.pool ≡ one.pool) × (result.0.0.joined ≡ one.joined) × (result.0.0.lent.limits ≡ one.lent.limits) }
-    ensures two { (result.1.0.lent.out ≡ []) × (result.1.0.pool ≡ two.pool) × (result.1.0.joined ≡ two.joined) × (result.1.0.lent.limits ≡ two.lent.limits) }
+    requires one { (one.pool ≡ pool.now) × (one.lent.limits.hosts ≡ 2) × (0 < one.lent.limits.per_pass) × (one.lent.out ≡ []) × (one.lent.ended ≡ false) }
+    requires two { (two.pool ≡ pool.now) × (two.lent.limits.hosts ≡ 2) × (0 < two.lent.limits.per_pass) × (two.lent.out ≡ []) × (two.lent.ended ≡ false) }
+    ensures one { (result.0.0.lent.out ≡ []) × (result.0.0.pool ≡ one.pool) × (result.0.0.joined ≡ one.joined) × (result.0.0.lent.limits ≡ one.lent.limits) × (result.0.0.lent.ended ≡ one.lent.ended) }
+    ensures two { (result.1.0.lent.out ≡ []) × (result.1.0.pool ≡ two.pool) × (result.1.0.joined ≡ two.joined) × (result.1.0.lent.limits ≡ two.lent.limits) × (result.1.0.lent.ended ≡ two.lent.ended) }
 {
     join(
         rt,

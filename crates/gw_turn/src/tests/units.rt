@@ -1,6 +1,6 @@
 //! Units of all kinds, and the count of the calls that a thread makes for them.
 
-ghost use Rattle.std.specs.Prelude.{◌≡◌, ◌<◌, ◌∷◌, [], true, IfSome, IfNone};
+ghost use Rattle.std.specs.Prelude.{◌≡◌, ◌<◌, ◌∷◌, [], true, false, IfSome, IfNone};
 ghost use Rattle.gw_pool.specs.Lent.{LeaseOf};
 ghost use Rattle.gw_pool.specs.Tokens.{ticket_of, has_dial, change, without_dial, leased};
 
@@ -134,12 +134,13 @@ fn want_once<R: Wait + Abort>(
     unit: Unit,
 ) -> Option<Ticket>
     requires of { pass.old.pool ≡ pool.now }
+    requires running { pass.old.lent.ended ≡ false }
     requires host { unit.host < pass.old.lent.limits.hosts }
     requires few { 0 < pass.old.lent.limits.per_pass }
     requires free { pass.old.lent.out ≡ [] }
     ensures ticket { IfSome result (λ t. pass.new.lent.out ≡ ticket_of t.want ∷ []) }
     ensures expired { IfNone result (pass.new.lent.out ≡ []) }
-    ensures stays { (pass.new.pool ≡ pass.old.pool) × (pass.new.joined ≡ pass.old.joined) × (pass.new.lent.limits ≡ pass.old.lent.limits) × (pass.new.lent.number ≡ pass.old.lent.number) }
+    ensures stays { (pass.new.pool ≡ pass.old.pool) × (pass.new.joined ≡ pass.old.joined) × (pass.new.lent.limits ≡ pass.old.lent.limits) × (pass.new.lent.number ≡ pass.old.lent.number) × (pass.new.lent.ended ≡ pass.old.lent.ended) }
 {
     let mut desk = Desk { rt, pool, pass };
     match desk.want(unit.host, unit.now) {
@@ -165,11 +166,12 @@ fn wanted<R: Wait + Abort>(
     unit: Unit,
 ) -> Ticket
     requires of { pass.old.pool ≡ pool.now }
+    requires running { pass.old.lent.ended ≡ false }
     requires host { unit.host < pass.old.lent.limits.hosts }
     requires few { 0 < pass.old.lent.limits.per_pass }
     requires free { pass.old.lent.out ≡ [] }
     ensures out { pass.new.lent.out ≡ ticket_of result.want ∷ [] }
-    ensures stays { (pass.new.pool ≡ pass.old.pool) × (pass.new.joined ≡ pass.old.joined) × (pass.new.lent.limits ≡ pass.old.lent.limits) × (pass.new.lent.number ≡ pass.old.lent.number) }
+    ensures stays { (pass.new.pool ≡ pass.old.pool) × (pass.new.joined ≡ pass.old.joined) × (pass.new.lent.limits ≡ pass.old.lent.limits) × (pass.new.lent.number ≡ pass.old.lent.number) × (pass.new.lent.ended ≡ pass.old.lent.ended) }
 {
     for _ in rt.forever() {
         if let Some(t) = want_once(rt, pool, pass, counts, unit) {
@@ -189,9 +191,10 @@ fn cancelled<R: Wait>(
     now: u64,
 )
     requires of { pass.old.pool ≡ pool.now }
+    requires running { pass.old.lent.ended ≡ false }
     requires out { pass.old.lent.out ≡ ticket_of t.want ∷ [] }
     ensures out { pass.new.lent.out ≡ [] }
-    ensures stays { (pass.new.pool ≡ pass.old.pool) × (pass.new.joined ≡ pass.old.joined) × (pass.new.lent.limits ≡ pass.old.lent.limits) × (pass.new.lent.number ≡ pass.old.lent.number) }
+    ensures stays { (pass.new.pool ≡ pass.old.pool) × (pass.new.joined ≡ pass.old.joined) × (pass.new.lent.limits ≡ pass.old.lent.limits) × (pass.new.lent.number ≡ pass.old.lent.number) × (pass.new.lent.ended ≡ pass.old.lent.ended) }
 {
     let mut desk = Desk { rt, pool, pass };
     let Put { close } = desk.cancel(t, now);
@@ -209,10 +212,11 @@ fn ended<R: Wait, C: Link>(
     unit: Unit,
 )
     requires of { pass.old.pool ≡ pool.now }
+    requires running { pass.old.lent.ended ≡ false }
     requires lease { LeaseOf C.link pass.old.lent l }
     requires out { pass.old.lent.out ≡ leased (ticket_of l.want) ∷ [] }
     ensures out { pass.new.lent.out ≡ [] }
-    ensures stays { (pass.new.pool ≡ pass.old.pool) × (pass.new.joined ≡ pass.old.joined) × (pass.new.lent.limits ≡ pass.old.lent.limits) × (pass.new.lent.number ≡ pass.old.lent.number) }
+    ensures stays { (pass.new.pool ≡ pass.old.pool) × (pass.new.joined ≡ pass.old.joined) × (pass.new.lent.limits ≡ pass.old.lent.limits) × (pass.new.lent.number ≡ pass.old.lent.number) × (pass.new.lent.ended ≡ pass.old.lent.ended) }
 {
     yield_now();
     let mut desk = Desk { rt, pool, pass };
@@ -240,9 +244,10 @@ fn dial_ended<R: Wait>(
     unit: Unit,
 )
     requires of { pass.old.pool ≡ pool.now }
+    requires running { pass.old.lent.ended ≡ false }
     requires dial { has_dial d.want pass.old.lent.out ≡ true }
     ensures out { pass.new.lent.out ≡ change d.want without_dial pass.old.lent.out }
-    ensures stays { (pass.new.pool ≡ pass.old.pool) × (pass.new.joined ≡ pass.old.joined) × (pass.new.lent.limits ≡ pass.old.lent.limits) × (pass.new.lent.number ≡ pass.old.lent.number) }
+    ensures stays { (pass.new.pool ≡ pass.old.pool) × (pass.new.joined ≡ pass.old.joined) × (pass.new.lent.limits ≡ pass.old.lent.limits) × (pass.new.lent.number ≡ pass.old.lent.number) × (pass.new.lent.ended ≡ pass.old.lent.ended) }
 {
     yield_now();
     let mut desk = Desk { rt, pool, pass };
@@ -269,9 +274,10 @@ fn dialed<R: Wait>(
     unit: Unit,
 )
     requires of { pass.old.pool ≡ pool.now }
+    requires running { pass.old.lent.ended ≡ false }
     requires out { pass.old.lent.out ≡ ticket_of t.now.want ∷ [] }
     ensures out { pass.new.lent.out ≡ pass.old.lent.out }
-    ensures stays { (pass.new.pool ≡ pass.old.pool) × (pass.new.joined ≡ pass.old.joined) × (pass.new.lent.limits ≡ pass.old.lent.limits) × (pass.new.lent.number ≡ pass.old.lent.number) }
+    ensures stays { (pass.new.pool ≡ pass.old.pool) × (pass.new.joined ≡ pass.old.joined) × (pass.new.lent.limits ≡ pass.old.lent.limits) × (pass.new.lent.number ≡ pass.old.lent.number) × (pass.new.lent.ended ≡ pass.old.lent.ended) }
 {
     let mut desk = Desk { rt, pool, pass };
     match desk.start(t) {
@@ -293,9 +299,10 @@ fn waited<R: Wait>(
     unit: Unit,
 )
     requires of { pass.old.pool ≡ pool.now }
+    requires running { pass.old.lent.ended ≡ false }
     requires out { pass.old.lent.out ≡ ticket_of t.want ∷ [] }
     ensures out { pass.new.lent.out ≡ [] }
-    ensures stays { (pass.new.pool ≡ pass.old.pool) × (pass.new.joined ≡ pass.old.joined) × (pass.new.lent.limits ≡ pass.old.lent.limits) × (pass.new.lent.number ≡ pass.old.lent.number) }
+    ensures stays { (pass.new.pool ≡ pass.old.pool) × (pass.new.joined ≡ pass.old.joined) × (pass.new.lent.limits ≡ pass.old.lent.limits) × (pass.new.lent.number ≡ pass.old.lent.number) × (pass.new.lent.ended ≡ pass.old.lent.ended) }
 {
     for _ in rt.forever() {
         let mut desk = Desk {
@@ -329,9 +336,10 @@ fn asked_and_cancelled<R: Wait>(
     unit: Unit,
 )
     requires of { pass.old.pool ≡ pool.now }
+    requires running { pass.old.lent.ended ≡ false }
     requires out { pass.old.lent.out ≡ ticket_of t.want ∷ [] }
     ensures out { pass.new.lent.out ≡ [] }
-    ensures stays { (pass.new.pool ≡ pass.old.pool) × (pass.new.joined ≡ pass.old.joined) × (pass.new.lent.limits ≡ pass.old.lent.limits) × (pass.new.lent.number ≡ pass.old.lent.number) }
+    ensures stays { (pass.new.pool ≡ pass.old.pool) × (pass.new.joined ≡ pass.old.joined) × (pass.new.lent.limits ≡ pass.old.lent.limits) × (pass.new.lent.number ≡ pass.old.lent.number) × (pass.new.lent.ended ≡ pass.old.lent.ended) }
 {
     let mut desk = Desk { rt, pool, pass };
     match desk.ask(t) {
@@ -352,9 +360,10 @@ fn started_and_cancelled<R: Wait>(
     unit: Unit,
 )
     requires of { pass.old.pool ≡ pool.now }
+    requires running { pass.old.lent.ended ≡ false }
     requires out { pass.old.lent.out ≡ ticket_of t.want ∷ [] }
     ensures out { pass.new.lent.out ≡ [] }
-    ensures stays { (pass.new.pool ≡ pass.old.pool) × (pass.new.joined ≡ pass.old.joined) × (pass.new.lent.limits ≡ pass.old.lent.limits) × (pass.new.lent.number ≡ pass.old.lent.number) }
+    ensures stays { (pass.new.pool ≡ pass.old.pool) × (pass.new.joined ≡ pass.old.joined) × (pass.new.lent.limits ≡ pass.old.lent.limits) × (pass.new.lent.number ≡ pass.old.lent.number) × (pass.new.lent.ended ≡ pass.old.lent.ended) }
 {
     let mut desk = Desk { rt, pool, pass };
     match desk.start(&t) {
@@ -378,11 +387,12 @@ fn one_unit<R: Wait + Abort>(
     unit: Unit,
 )
     requires of { pass.old.pool ≡ pool.now }
+    requires running { pass.old.lent.ended ≡ false }
     requires host { unit.host < pass.old.lent.limits.hosts }
     requires few { 0 < pass.old.lent.limits.per_pass }
     requires free { pass.old.lent.out ≡ [] }
     ensures out { pass.new.lent.out ≡ [] }
-    ensures stays { (pass.new.pool ≡ pass.old.pool) × (pass.new.joined ≡ pass.old.joined) × (pass.new.lent.limits ≡ pass.old.lent.limits) × (pass.new.lent.number ≡ pass.old.lent.number) }
+    ensures stays { (pass.new.pool ≡ pass.old.pool) × (pass.new.joined ≡ pass.old.joined) × (pass.new.lent.limits ≡ pass.old.lent.limits) × (pass.new.lent.number ≡ pass.old.lent.number) × (pass.new.lent.ended ≡ pass.old.lent.ended) }
 {
     let t = wanted(rt, pool, pass, counts, unit);
     match unit.plan {
@@ -407,9 +417,10 @@ fn idle_out<R: Wait>(
     now: u64,
 )
     requires of { pass.old.pool ≡ pool.now }
+    requires running { pass.old.lent.ended ≡ false }
     requires free { pass.old.lent.out ≡ [] }
     ensures out { pass.new.lent.out ≡ [] }
-    ensures stays { (pass.new.pool ≡ pass.old.pool) × (pass.new.joined ≡ pass.old.joined) × (pass.new.lent.limits ≡ pass.old.lent.limits) × (pass.new.lent.number ≡ pass.old.lent.number) }
+    ensures stays { (pass.new.pool ≡ pass.old.pool) × (pass.new.joined ≡ pass.old.joined) × (pass.new.lent.limits ≡ pass.old.lent.limits) × (pass.new.lent.number ≡ pass.old.lent.number) × (pass.new.lent.ended ≡ pass.old.lent.ended) }
 {
     let mut desk = Desk { rt, pool, pass };
     if expired {
@@ -446,11 +457,12 @@ fn held<R: Wait + Abort>(
     unit: Unit,
 )
     requires of { pass.old.pool ≡ pool.now }
+    requires running { pass.old.lent.ended ≡ false }
     requires host { unit.host < pass.old.lent.limits.hosts }
     requires few { 0 < pass.old.lent.limits.per_pass }
     requires free { pass.old.lent.out ≡ [] }
     ensures out { pass.new.lent.out ≡ [] }
-    ensures stays { (pass.new.pool ≡ pass.old.pool) × (pass.new.joined ≡ pass.old.joined) × (pass.new.lent.limits ≡ pass.old.lent.limits) × (pass.new.lent.number ≡ pass.old.lent.number) }
+    ensures stays { (pass.new.pool ≡ pass.old.pool) × (pass.new.joined ≡ pass.old.joined) × (pass.new.lent.limits ≡ pass.old.lent.limits) × (pass.new.lent.number ≡ pass.old.lent.number) × (pass.new.lent.ended ≡ pass.old.lent.ended) }
 {
     let t = wanted(rt, pool, pass, counts, unit);
     dialed(rt, pool, pass, counts, &t, unit);
@@ -477,11 +489,12 @@ fn served<R: Wait + Abort>(
     unit: Unit,
 )
     requires of { pass.old.pool ≡ pool.now }
+    requires running { pass.old.lent.ended ≡ false }
     requires host { unit.host < pass.old.lent.limits.hosts }
     requires few { 0 < pass.old.lent.limits.per_pass }
     requires free { pass.old.lent.out ≡ [] }
     ensures out { pass.new.lent.out ≡ [] }
-    ensures stays { (pass.new.pool ≡ pass.old.pool) × (pass.new.joined ≡ pass.old.joined) × (pass.new.lent.limits ≡ pass.old.lent.limits) × (pass.new.lent.number ≡ pass.old.lent.number) }
+    ensures stays { (pass.new.pool ≡ pass.old.pool) × (pass.new.joined ≡ pass.old.joined) × (pass.new.lent.limits ≡ pass.old.lent.limits) × (pass.new.lent.number ≡ pass.old.lent.number) × (pass.new.lent.ended ≡ pass.old.lent.ended) }
 {
     arrived(rt, meeting, 2);
     let t = wanted(rt, pool, pass, counts, unit);
@@ -525,11 +538,12 @@ fn begun_first<R: Wait + Abort>(
     unit: Unit,
 )
     requires of { pass.old.pool ≡ pool.now }
+    requires running { pass.old.lent.ended ≡ false }
     requires host { unit.host < pass.old.lent.limits.hosts }
     requires few { 0 < pass.old.lent.limits.per_pass }
     requires free { pass.old.lent.out ≡ [] }
     ensures out { pass.new.lent.out ≡ [] }
-    ensures stays { (pass.new.pool ≡ pass.old.pool) × (pass.new.joined ≡ pass.old.joined) × (pass.new.lent.limits ≡ pass.old.lent.limits) × (pass.new.lent.number ≡ pass.old.lent.number) }
+    ensures stays { (pass.new.pool ≡ pass.old.pool) × (pass.new.joined ≡ pass.old.joined) × (pass.new.lent.limits ≡ pass.old.lent.limits) × (pass.new.lent.number ≡ pass.old.lent.number) × (pass.new.lent.ended ≡ pass.old.lent.ended) }
 {
     let fails = Unit {
         plan: Plan::FailDial,
@@ -554,11 +568,12 @@ pub(super) fn work<R: Wait + Abort>(
     units: u64,
 ) -> (Pass, Counts)
     requires of { pass.pool ≡ pool.now }
+    requires running { pass.lent.ended ≡ false }
     requires host { pass.lent.limits.hosts ≡ 2 }
     requires few { 0 < pass.lent.limits.per_pass }
     requires free { pass.lent.out ≡ [] }
     ensures out { result.0.lent.out ≡ [] }
-    ensures stays { (result.0.pool ≡ pass.pool) × (result.0.joined ≡ pass.joined) × (result.0.lent.limits ≡ pass.lent.limits) }
+    ensures stays { (result.0.pool ≡ pass.pool) × (result.0.joined ≡ pass.joined) × (result.0.lent.limits ≡ pass.lent.limits) × (result.0.lent.ended ≡ pass.lent.ended) }
 {
     let mut counts = Counts::new();
     let first = Unit {
