@@ -21,19 +21,15 @@ use Rattle.gw_chunk.specs.declared.position.Position.TheVariants.{Line, Content,
 use Rattle.gw_chunk.specs.declared.decoder.ChunkFed.{ChunkFed}
 use Rattle.gw_chunk.specs.declared.decoder.ChunkStep.{ChunkStep}
 use Rattle.gw_chunk.specs.declared.decoder.ChunkStep.TheVariants.{Data, More, Done}
-use Rattle.gw_chunk.specs.Chunked.{coded, coded_piece, coded_end, piece_limit, pieces_within, pieces_of}
 use Rattle.gw_chunk.specs.Position.{after, is_undecided, Has}
 use Rattle.gw_chunk.proofs.Facts.{content_step, has_text, fails_bad, undecided_end, undecided_fault}
 use Rattle.gw_head.specs.declared.framing.Framing.{Framing}
 use Rattle.gw_head.specs.declared.framing.Framing.TheVariants.{None as NoBody, Length, Chunked as InChunks, ToEnd as ToLinkEnd}
 use Rattle.gw_body.specs.declared.place.Place.{Place}
 use Rattle.gw_body.specs.declared.place.Place.TheVariants as place
-use Rattle.gw_body.specs.declared.plan.Plan.{Plan}
-use Rattle.gw_body.specs.declared.plan.Plan.TheVariants as plan
 use Rattle.gw_body.specs.Body.{BodyOf, BadBody}
 use Rattle.gw_body.specs.Places.{begins, ended, HasBody, FailsBody}
 use Rattle.gw_body.specs.Taken.{Takes, Feeds, Steps, WantsMore, Ends, GivesData, DecidesNothing}
-use Rattle.gw_body.specs.Written.{plan_of, piece_text, behind_piece, body_text}
 use Rattle.gw_body.proofs.Facts.{takes_none, takes_then}
 use Rattle.gw_session.specs.declared.gather.Ahead.TheVariants as step
 use Rattle.gw_session.specs.declared.gather.Gathered.{Gathered}

@@ -5,18 +5,14 @@ use Rattle.gw_wire.specs.declared.values.Act.TheVariants.{End as LinkEnd}
 use Rattle.gw_wire.specs.Link.{LinkView}
 use Rattle.gw_wire.specs.Stretch.{Told, Then, Acts}
 use Rattle.gw_wire.specs.Wire.{WireView}
-use Rattle.gw_chunk.specs.Chunked.{coded}
 use Rattle.gw_chunk.specs.Position.{is_undecided}
 use Rattle.gw_head.specs.declared.framing.Framing.{Framing}
 use Rattle.gw_head.specs.declared.framing.Framing.TheVariants.{None as NoBody, Length, Chunked, ToEnd}
 use Rattle.gw_body.specs.declared.place.Place.{Place}
 use Rattle.gw_body.specs.declared.place.Place.TheVariants as place
-use Rattle.gw_body.specs.declared.plan.Plan.{Plan}
-use Rattle.gw_body.specs.declared.plan.Plan.TheVariants as plan
 use Rattle.gw_body.specs.Body.{BodyOf, BadBody}
 use Rattle.gw_body.specs.Places.{begins, ended, HasBody, FailsBody}
 use Rattle.gw_body.specs.Taken.{Takes}
-use Rattle.gw_body.specs.Written.{body_text}
 use Rattle.gw_session.specs.declared.gather.Ahead.{Ahead}
 use Rattle.gw_session.specs.declared.gather.Ahead.TheVariants as step
 use Rattle.gw_session.specs.declared.gather.Gathered.{Gathered}

@@ -12,7 +12,7 @@ use gw_body::{AtEnd, BodyReader};
 use gw_chunk::{ChunkError, ChunkStep};
 use gw_head::Framing;
 use gw_wire::Wire;
-use std::alloc::{AllocError, Global};
+use std::alloc::Global;
 
 /// What came of a body.
 #[derive(Debug, Drop)]

@@ -1,4 +1,4 @@
-// Bodies of each framing cut at every byte, bodies that don't come whole, and the text that a body is written as.
+// Bodies of each framing cut at every byte, and bodies that don't come whole.
 
 ghost use Rattle.std.specs.Prelude.{◌≡◌, false, IfOk};
 
