@@ -86,10 +86,12 @@ place_same g k (Idle x y) a = refl
 
 pub same_weight : (g k : Weigh) (s : State) → ((n : ℕ) → g.conn n ≡ k.conn n) → Rows (Agree g k) s → weight g s ≡ weight k s
 unfolding weight
-same_weight g k s z o = omega (arith,
+same_weight g k s z o = omega (
+  arith,
   sum_same (want_weight g) (want_weight k) s.wants (λ r m. stage_same g k r.stage r.want r.caller (o.wants r m)),
   sum_same (λ (r : DialRow). g.dial r.want) (λ (r : DialRow). k.dial r.want) s.dials (λ r m. (o.dials r m).2),
-  sum_same (conn_weight g) (conn_weight k) s.conns (λ r m. let p = place_same g k r.place (o.conns r m) in omega (arith, p, z r.conn)))
+  sum_same (conn_weight g) (conn_weight k) s.conns (λ r m. let p = place_same g k r.place (o.conns r m) in omega (arith, p, z r.conn)),
+)
 
 -- a caller's wants with a row or a connection are units of it
 pub stage_occ : (by : ℕ → ℕ) (c : ℕ) (stage : Stage) (w : ℕ) → stage_weight (occ_by by c) stage w ≡ is_by by c w
@@ -145,9 +147,14 @@ occ_units by c s o n =
     let once : (w : ℕ) → occs w (a ++ e) ≤ 1 = λ w.
     omega (arith, sum_by-append (λ x. one w x) a e, occs_where w (want_weight (occ_of w)) (λ (r : WantRow). r.want) (of_caller c) s.wants (λ r t. stage_one w r.stage r.want), occs_outs w c s.conns, n.occ w) in
     let inside : (w : ℕ) → In w (a ++ e) → In w ((a ++ d) ++ e) = λ w m. elim (in_append w a e m) [ inl x ↦ in_left w (a ++ d) e (in_left w a d x) | inr x ↦ in_right w (a ++ d) e x ] in
-    omega (arith, fits_in (a ++ e) ((a ++ d) ++ e) once inside, length-append a e,
+    omega (
+      arith,
+      fits_in (a ++ e) ((a ++ d) ++ e) once inside,
+      length-append a e,
       len_where (want_weight (occ_by by c)) (λ (r : WantRow). r.want) (of_caller c) s.wants (λ r m. stage_occ by c r.stage r.want ∙ ap (λ v. bit (v == c)) (sym (o.wants r m).1)),
-      len_outs by s.next_want c s.conns o.conns, zero_sum (λ (r : DialRow). 0) s.dials (λ r. refl))
+      len_outs by s.next_want c s.conns o.conns,
+      zero_sum (λ (r : DialRow). 0) s.dials (λ r. refl),
+    )
 
 -- so are those that may come to a dial or have one
 abbrev is_before : Stage → Bool
@@ -185,13 +192,22 @@ dia_units by c s o n =
     let d = map (λ (r : DialRow). r.want) (filter (λ (r : DialRow). r.caller == c) s.dials) in
     let e = outs c s.conns in
     let once : (w : ℕ) → occs w (a ++ d) ≤ 1 = λ w.
-    omega (arith, sum_by-append (λ x. one w x) a d, occs_where w (want_weight (dia_of w)) (λ (r : WantRow). r.want) (early_of c) s.wants (λ r t. early_one w c r.stage r.want r.caller t),
-      occs_where w (λ (r : DialRow). one w r.want) (λ (r : DialRow). r.want) (λ (r : DialRow). r.caller == c) s.dials (λ r t. omega arith), n.dia w) in
+    omega (
+      arith,
+      sum_by-append (λ x. one w x) a d,
+      occs_where w (want_weight (dia_of w)) (λ (r : WantRow). r.want) (early_of c) s.wants (λ r t. early_one w c r.stage r.want r.caller t),
+      occs_where w (λ (r : DialRow). one w r.want) (λ (r : DialRow). r.want) (λ (r : DialRow). r.caller == c) s.dials (λ r t. omega arith),
+      n.dia w,
+    ) in
     let inside : (w : ℕ) → In w (a ++ d) → In w ((b ++ d) ++ e) = λ w m. elim (in_append w a d m) [
       | inl x ↦ in_left w (b ++ d) e (in_left w b d (in_where w (λ (r : WantRow). r.want) (early_of c) (of_caller c) s.wants (λ r t. early_caller c r.stage r.caller t) x))
       | inr x ↦ in_left w (b ++ d) e (in_right w b d x)
     ] in
-    omega (arith, fits_in (a ++ d) ((b ++ d) ++ e) once inside, length-append a d,
+    omega (
+      arith,
+      fits_in (a ++ d) ((b ++ d) ++ e) once inside,
+      length-append a d,
       len_where (want_weight (dia_by by c)) (λ (r : WantRow). r.want) (early_of c) s.wants (λ r m. stage_dia by c r.stage r.want r.caller (o.wants r m).1),
       len_where (λ (r : DialRow). is_by by c r.want) (λ (r : DialRow). r.want) (λ (r : DialRow). r.caller == c) s.dials (λ r m. ap (λ v. bit (v == c)) (sym (o.dials r m).1)),
-      zero_sum (conn_weight (dia_by by c)) s.conns (λ r. omega (arith, place_none by c r.place)))
+      zero_sum (conn_weight (dia_by by c)) s.conns (λ r. omega (arith, place_none by c r.place)),
+    )

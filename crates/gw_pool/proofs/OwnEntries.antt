@@ -112,9 +112,10 @@ made_stands limits before caller host now answer l =
 -- behind a dial that begins
 start_stands : (s : State) (w host caller : ℕ) (row : WantRow) → row.want ≡ w → row.host ≡ host → row.caller ≡ caller → IsWanted is_dialing w host caller (start_row s row).state × IsDialed w host caller (start_row s row).state
 unfolding start_row
-start_stands s w host caller row a b c =
-    (record { row = record row { stage = Dialing }; there = is_last (record row { stage = Dialing }) (remove_first (wants_it row.want) s.wants); is_want = a; is_host = b; by = c; stage = refl },
-    rw (← a, ← b, ← c) (is_last (record { want = row.want; host = row.host; caller = row.caller }) s.dials))
+start_stands s w host caller row a b c = (
+  record { row = record row { stage = Dialing }; there = is_last (record row { stage = Dialing }) (remove_first (wants_it row.want) s.wants); is_want = a; is_host = b; by = c; stage = refl },
+  rw (← a, ← b, ← c) (is_last (record { want = row.want; host = row.host; caller = row.caller }) s.dials),
+)
 
 comes_row : (test : Stage → Bool) (s : State) (w host caller : ℕ) (row : WantRow) → Numbers s → Comes test w host caller s → find (wants_it w) s.wants ≡ Some row → row.host ≡ host
 comes_row test s w host caller row n (inl k) f = let same : Some k.row ≡ Some row = sym (want_row s w k.row n k.there k.is_want) ∙ f in let rows : k.row ≡ row = cc in ap (λ (x : WantRow). x.host) (sym rows) ∙ k.is_host

@@ -102,6 +102,6 @@ out_stays limits seen more want caller row l m k =
     let before : IsLegal limits seen = front limits seen more l in
     record {
       there = found_among (has_number row.conn) row (after limits (seen ++ more)).conns
-      (leases_stay limits seen more caller want row l (none_back (takes_back row.conn want) (mine more caller) m) (conn_numbered (after limits seen) row (legal_numbers limits seen before) k.there) k.place);
+          (leases_stay limits seen more caller want row l (none_back (takes_back row.conn want) (mine more caller) m) (conn_numbered (after limits seen) row (legal_numbers limits seen before) k.there) k.place);
       place = k.place;
     }

@@ -20,9 +20,9 @@ pub use answers::{Closed, CoreAsk, CoreWant};
 pub use entry::{Call, Entry, Offer, Reply};
 pub use holding::{Holding, Tokens};
 pub use laws::{
-    connections_are_taken_back, dialed_connections_are_somewhere, journal_has_room,
-    least_wants_come_first, leases_stay, limits_hold, nothing_is_held_back, wants_are_served_once,
-    wants_go_on, wants_stand,
+    connections_are_taken_back, dialed_connections_are_somewhere, journal_has_room, leases_stay,
+    least_wants_come_first, limits_hold, nothing_is_held_back, wants_are_served_once, wants_go_on,
+    wants_stand,
 };
 pub use leases::{Ask, DialToken, Lease, Leases, Put, Start, Ticket, Want};
 pub use limits::Limits;

@@ -68,4 +68,3 @@ said_as old new «from» to P Q reason result f s = record {
   timed = s.timed;
   log = s.log;
 }
-
