@@ -1,0 +1,10 @@
+mod CallLemmas
+mod DialLemmas
+mod EndLemmas
+mod GuardLemmas
+mod LeaseLemmas
+mod RestLemmas
+mod SeqLemmas
+mod StretchLemmas
+mod WaitLemmas
+mod WantLemmas

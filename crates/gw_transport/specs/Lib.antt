@@ -1,0 +1,4 @@
+pub mod Guard
+pub mod Stretch
+pub mod Parts
+pub mod Leasing
