@@ -104,6 +104,7 @@ leased_as {C = C} host backend want answer way Lateness.ByRests leased.Late a w 
     let t = r.4 in
     (count, s.3.1, (r.0, r.1, r.2, r.3, (want, answer, t.4.0, (t.0, t.1, t.2, t.3, t.4.1))))
 leased_as {C = C} host backend want answer way Lateness.ByExpired leased.Late a w s = absurd s.4
+leased_as {C = C} host backend want answer way Lateness.ByTicks leased.Late a w s = absurd s.4
 
 stops_of : (host : ℕ) (a : At) (w u v : Work) → w ≡ and u v → Sees free a u → Stops host (behind a u) v → Stops host a w
 stops_of host a w u v e s (inl k) = inl (sees_sees free free a w (u, v, e, s, k))
@@ -123,6 +124,7 @@ sees_leased host backend late leased.Cancelled a w s = sees_stops host a w s
 sees_leased host backend Lateness.ByDeadline leased.Late a w s = sees_stops host a w s
 sees_leased host backend Lateness.ByRests leased.Late a w s = sees_clearing host (GivesUp host a_million_rests IsWaiting) a w s
 sees_leased host backend Lateness.ByExpired leased.Late a w s = sees_repeats 1000000 (FindsExpired host) a w s
+sees_leased host backend Lateness.ByTicks leased.Late a w s = absurd s.4
 
 cause_from : {C : Type 0} (f g h : GuardView) (moment : ℕ) (late : Lateness) (result : Leased C) → f.cancels ≤ g.cancels → g.deadline ≡ f.deadline
     → LeaseCause g h moment late result → LeaseCause f h moment late result
@@ -133,6 +135,7 @@ cause_from f g h moment late leased.Cancelled le same k = rose_from f.cancels g.
 cause_from f g h moment Lateness.ByDeadline leased.Late le same k = subst (λ (o : Option ℕ). IsDue o moment) same k
 cause_from f g h moment Lateness.ByRests leased.Late le same k = tt
 cause_from f g h moment Lateness.ByExpired leased.Late le same k = tt
+cause_from f g h moment Lateness.ByTicks leased.Late le same k = tt
 
 pub leased_waited : {C : Type 0} (link : C → LinkView) (old x y z : WireView) (f g h : GuardView) (a b c : Lent) (host : ℕ) (backend : Addr) (now : ℕ) (t : Ticket) (result : Leased C)
     → f.last ≤ old.moment → NowStep old x now → LookStep f g now sight.On → (w : WantedStep (span x y a b) host (wanted.Ticket t))

@@ -1,3 +1,4 @@
+mod AttemptLemmas
 mod CallLemmas
 mod DialLemmas
 mod EndLemmas
@@ -8,3 +9,4 @@ mod SeqLemmas
 mod StretchLemmas
 mod WaitLemmas
 mod WantLemmas
+mod WatchLemmas

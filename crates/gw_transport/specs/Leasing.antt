@@ -55,17 +55,19 @@ pub record IsLeased {C : Type 0} (link : C → LinkView) (lent : Lent) (l : Leas
   pub few : 0 < lent.limits.per_pass
   pub lease : LeaseOf link lent l
 
--- what a trip was late by: its deadline, a million rests of a want that waits, or a million wants that found expired
--- connections
+-- what a trip was late by: its deadline, a million rests of a want that waits, a million wants that found expired
+-- connections, or a million ticks of one wait on a backend's link
 pub data Lateness : Type 0 where
   ByDeadline : Lateness
   ByRests : Lateness
   ByExpired : Lateness
+  ByTicks : Lateness
 
 abbrev pub IsLate : Lateness → Option ℕ → ℕ → Type 0
 IsLate ByDeadline deadline moment = IsDue deadline moment
 IsLate ByRests deadline moment = Unit {0}
 IsLate ByExpired deadline moment = Unit {0}
+IsLate ByTicks deadline moment = Unit {0}
 
 -- wants that found expired connections, fewer than a million, and this behind them
 abbrev pub Clearing : ℕ → (At → Work → Type 0) → At → Work → Type 0
@@ -79,6 +81,7 @@ abbrev pub LateBy : ℕ → Lateness → At → Work → Type 0
 LateBy host ByDeadline a w = Stops host a w
 LateBy host ByRests a w = Clearing host (GivesUp host a_million_rests IsWaiting) a w
 LateBy host ByExpired a w = Repeats 1000000 (FindsExpired host) a w
+LateBy host ByTicks a w = ⊥
 
 -- what was done for each answer
 abbrev pub LeasedBy : {C : Type 0} → ℕ → Addr → Lateness → Leased C → At → Work → Type 0
@@ -179,6 +182,7 @@ WaitedBy host backend want answer way late leased.Cancelled a w = IsPlace want a
 WaitedBy host backend want answer way ByDeadline leased.Late a w = IsPlace want answer × Seq (Sees free) (Cancels want) a w
 WaitedBy host backend want answer way ByRests leased.Late a w = IsWaiting want answer × Seq (Sees a_million_rests) (Cancels want) a w
 WaitedBy host backend want answer way ByExpired leased.Late a w = ⊥
+WaitedBy host backend want answer way ByTicks leased.Late a w = ⊥
 
 pub record WaitedStep {C : Type 0} (link : C → LinkView) (s : Span) (from to : GuardView) (host : ℕ) (backend : Addr) (want : ℕ) (answer : Reply) (result : Leased C) : Type 0 where
   pub way : Way

@@ -1,11 +1,15 @@
 //! Trips to backends: a connection for each attempt, and the attempts.
 #![tactic(auto)]
 
+mod attempts;
 mod guard;
 mod leasing;
+mod watch;
 
+pub use attempts::{Attempt, Attempted, Errand, Tried, make_trip};
 pub use guard::{Guard, Sight};
 pub use leasing::{Leased, close_expired, end_lease, lease};
+pub use watch::Watch;
 
 #[cfg(test)]
 mod tests;
