@@ -1,13 +1,16 @@
 -- Attempts one after another.
-use Rattle.std.proofs.Common.{ℕ, zero, suc, ◌≡◌, ◌≤◌, ◌<◌, ◌+◌, ◌&&◌, ◌||◌, Bool, true, false, ◌⊎◌, List, [], Option, Some, None, nat_lt, refl, ap, sym, subst, ◌∙◌, arith, inl, inr}
+use Rattle.std.proofs.Common.{ℕ, zero, suc, ◌≡◌, ◌≤◌, ◌<◌, ◌+◌, ◌&&◌, ◌||◌, Bool, true, false, ◌⊎◌, List, [], ◌++◌, Option, Some, None, nat_lt, refl, ap, sym, subst, ◌∙◌, arith, append_assoc, inl, inr}
 use Rattle.std.proofs.lemmas.Bool.{and_parts, ltb-true}
 use Rattle.gw_wire.specs.Link.{LinkView}
 use Rattle.gw_wire.specs.Wire.{WireView, NowStep}
 use Rattle.gw_pool.specs.declared.entry.Call.TheVariants as call
+use Rattle.gw_pool.specs.declared.entry.Entry.{Entry}
 use Rattle.gw_pool.specs.declared.entry.Reply.TheVariants as reply
 use Rattle.gw_pool.specs.declared.leases.Lease.{Lease}
 use Rattle.gw_pool.specs.declared.rows.ConnRow.{ConnRow}
+use Rattle.gw_pool.specs.History.{after}
 use Rattle.gw_pool.specs.Lent.{Lent, row_of}
+use Rattle.gw_pool.specs.Machine.{step}
 use Rattle.gw_retry.specs.declared.Failure.{Failure}
 use Rattle.gw_retry.specs.declared.Failure.TheVariants as failure
 use Rattle.gw_retry.specs.declared.BodyKind.{BodyKind}
@@ -263,21 +266,23 @@ tried_late link Does errand old x y a b c f g h m mid n p s =
 
 -- ---- a trip's beginning
 
-expires_of : (a : At) (w u v : Work) → w ≡ and u v → Sees free a u → Expires (behind a u) v → Expires a w
-expires_of a w u v e s (inl k) = inl (sees_sees free free a w (u, v, e, s, k))
-expires_of a w u v e s (inr k) = inr (k.0, k.1, sees_hands Anywhere (call.Expire k.0) (reply.Taken k.1) a w (u, v, e, s, k.2))
+expires_of : (at : ℕ) (a : At) (w u v : Work) → w ≡ and u v → Sees free a u → Expires at (behind a u) v → Expires at a w
+expires_of at a w u v e s (inl k) =
+    let T : List Entry → Type 0 = λ h. step a.limits (after a.limits h) a.caller (call.Expire at) ≡ None in
+    inl (sees_sees free free a w (u, v, e, s, k.0), subst T (append_assoc a.history u.made v.made ∙ ap (λ (x : Work). a.history ++ x.made) (sym e)) k.1)
+expires_of at a w u v e s (inr k) = inr (k.0, sees_hands Anywhere (call.Expire at) (reply.Taken k.0) a w (u, v, e, s, k.1))
 
-sees_expires : (a : At) (w : Work) → Seq (Sees free) Expires a w → Expires a w
-sees_expires a w s = expires_of a w s.0 s.1 s.2 s.3 s.4
+sees_expires : (at : ℕ) (a : At) (w : Work) → Seq (Sees free) (Expires at) a w → Expires at a w
+sees_expires at a w s = expires_of at a w s.0 s.1 s.2 s.3 s.4
 
 pub trip_made : {C R E : Type 0} (link : C → LinkView) (old x y z : WireView) (a b c : Lent) (f g : GuardView) (does : Lateness → At → Work → Type 0) (result : Attempted C R E) (now : ℕ)
-    → f.last ≤ old.moment → NowStep old x now → ExpiredStep (span x y a b) → AttemptedStep link (span y z b c) f g does result
+    → f.last ≤ old.moment → NowStep old x now → ExpiredStep (span x y a b) now → AttemptedStep link (span y z b c) f g does result
     → AttemptedStep link (span old z a c) f g (BegunBy does) result
 trip_made link old x y z a b c f g does result now le n e s =
-    let first = part_map (part_then (part_now old x a now n) e.did) sees_expires in
+    let first = part_map (part_then (part_now old x a now n) e.did) (sees_expires now) in
     record {
       late = s.late;
-      did = stretch_then (stretch_part f le first) s.did;
+      did = stretch_map (stretch_then (stretch_part f le first) s.did) (λ q w both. (now, both));
       cause = s.cause;
       left = s.left;
     }

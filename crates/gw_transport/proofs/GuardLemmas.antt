@@ -87,25 +87,3 @@ guard_then f g h m n le p q = record {
 
 pub guard_later : (f g : GuardView) (m n : ℕ) → m ≤ n → GuardGoes f g m → GuardGoes f g n
 guard_later f g m n le p = guard_then f g g m n le p (guard_same g n (let s = p.seen in omega arith))
-
--- a look that only notes the moment, and counts what it found
-pub guard_looked : (g : GuardView) (now cancels : ℕ) → g.last ≤ now → g.cancels ≤ cancels → GuardGoes g (record g { last = now; cancels = cancels }) now
-guard_looked g now cancels le more = record {
-  tree = inl refl;
-  node = refl;
-  deadline = refl;
-  table = refl;
-  places = refl;
-  base = record { more = []; cancels = sym (append-nil g.words.view.cancels); base = All-nil (λ (set : ℕ × Cause). set ≡ (0, Canceled)); past = inl refl };
-  own = refl;
-  gate = refl;
-  room = refl;
-  held = refl;
-  shut = refl;
-  seen_shut = λ e. e;
-  grace = refl;
-  shut_at = inl refl;
-  last = le;
-  seen = omega arith;
-  cancels = more;
-}

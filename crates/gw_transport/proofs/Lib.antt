@@ -2,6 +2,7 @@ mod AttemptLemmas
 mod CallLemmas
 mod DialLemmas
 mod EndLemmas
+mod FailLemmas
 mod GuardLemmas
 mod LeaseLemmas
 mod RestLemmas

@@ -1,5 +1,5 @@
 -- The connection that is due, and wants until one is made.
-use Rattle.std.proofs.Common.{ℕ, suc, ◌≡◌, ◌<◌, ◌+◌, true, false, List, [], ◌∷◌, ◌++◌, Option, Some, None, refl, ap, sym, subst, ◌∙◌, arith, inl, inr}
+use Rattle.std.proofs.Common.{ℕ, suc, ◌≡◌, ◌<◌, ◌+◌, true, false, List, [], ◌∷◌, ◌++◌, Option, Some, None, refl, ap, sym, subst, ◌∙◌, arith, inl, inr, append-nil}
 use Rattle.gw_wire.specs.Causes.{RoseBy}
 use Rattle.gw_wire.specs.Link.{LinkView}
 use Rattle.gw_wire.specs.Wire.{WireView, CloseStep}
@@ -16,30 +16,44 @@ use Rattle.gw_pool.specs.Gone.{link_of, WantLeaves}
 use Rattle.gw_pool.specs.History.{IsLegal, after, refuses}
 use Rattle.gw_pool.specs.Keeps.{IsOut, IsWanted, StandsNew, is_early}
 use Rattle.gw_pool.specs.Lent.{Lent, IdleStep, IsMade, WantExpired, WantFull, WantMade, entry_of}
+use Rattle.gw_pool.specs.Machine.{step}
 use Rattle.gw_pool.specs.Places.{is_granted, is_waiting}
 use Rattle.gw_pool.specs.State.{State}
 use Rattle.gw_pool.specs.Tokens.{ticket_of}
 use Rattle.gw_pool.proofs.Facts.{expire_says, made_stands, want_leaves}
 use Rattle.gw_account.specs.Did.{span}
-use Rattle.gw_account.specs.Work.{free}
+use Rattle.gw_account.specs.Work.{Work, At, and, behind, free}
 use Rattle.gw_account.proofs.Facts.{doing_billed, looked, pays_by}
 use Rattle.gw_transport.specs.declared.leasing.Wanted.TheVariants as wanted
 use Rattle.gw_transport.specs.Leasing.{AnswerStands, ExpiredStep, IsAsked, IsRested, LeftStep, WantedStep}
-use Rattle.gw_transport.specs.Parts.{Anywhere, Closes, FindsExpired, Hands, HasRoom, IsRefused, Repeats, Sees, Wants}
+use Rattle.gw_transport.specs.Parts.{Anywhere, Closes, Expires, FindsExpired, Hands, HasRoom, IsRefused, NoneIsDue, Repeats, Sees, Wants}
 use Rattle.gw_transport.specs.Stretch.{Part}
 use Rattle.gw_transport.proofs.CallLemmas.{holds_after, is_link, left_some, no_closes, rested_after}
 use Rattle.gw_transport.proofs.SeqLemmas.{seq_map, sees_sees}
-use Rattle.gw_transport.proofs.StretchLemmas.{part_called, part_looked, part_map, part_nothing, part_then, part_went}
+use Rattle.gw_transport.proofs.StretchLemmas.{part_by, part_called, part_looked, part_map, part_nothing, part_then, part_went}
+
+-- behind the closes of nothing all stands
+due_nothing : (at : ℕ) (a : At) (w u v : Work) → w ≡ and u v → NoneIsDue at a u → Closes [] (behind a u) v → NoneIsDue at a w
+due_nothing at a w u v e k c =
+    let T : List Entry → Type 0 = λ h. step a.limits (after a.limits (a.history ++ h)) a.caller (call.Expire at) ≡ None in
+    let made : w.made ≡ u.made = ap (λ (x : Work). x.made) e ∙ ap (λ m. u.made ++ m) c.0 ∙ append-nil u.made in
+    (sees_sees free free a w (u, v, e, k.0, no_closes (behind a u) v c), subst T (sym made) k.1)
 
 pub expired_done : {C : Type 0} (link : C → LinkView) (old new : WireView) (a b : Lent) (now : ℕ) (left : Option C)
     → old.aged ≡ false → old.moment ≡ now → IsRested a → IdleStep link a b (call.Expire now) left → LeftStep link old new left
-    → ExpiredStep (span old new a b)
-expired_done link old new a b now None fresh read r m l = record {
-  did = part_map (part_then (part_looked old a b m.others fresh m.looks (rw m.leaves.waits (omega arith))) (part_went b l.went l.asked))
-      (λ t w s. inl (sees_sees free free t w (seq_map (Sees free) (Closes []) (Sees free) (Sees free) (λ x y z. z) no_closes t w s)));
-  moment = l.moment;
-  rested = rested_after a b m.others m.looks.meets r (m.leaves.out ∙ r.holds.out);
-}
+    → ExpiredStep (span old new a b) now
+expired_done link old new a b now None fresh read r m l =
+    let due : Part (span old old a b) (NoneIsDue now) = record {
+      work = record { acts = []; made = m.others; bill = free };
+      doing = looked old a b m.others fresh m.looks (rw m.leaves.waits (omega arith));
+      asked = refl;
+      does = ((m.looks.meets.foreign, refl, refl), m.unfit a.number);
+    } in
+    record {
+      did = part_map (part_then due (part_went b l.went l.asked)) (λ t w s. inl (due_nothing now t w s.0 s.1 s.2 s.3 s.4));
+      moment = l.moment;
+      rested = rested_after a b m.others m.looks.meets r (m.leaves.out ∙ r.holds.out);
+    }
 expired_done link old new a b now (Some conn) fresh read r m l =
     let said = expire_says a.limits _ a.number now m.outcome m.calls.fits in
     let links = (link conn).number ∷ [] in
@@ -47,7 +61,7 @@ expired_done link old new a b now (Some conn) fresh read r m l =
     (is_link link conn m.outcome.gone m.close) in
     record {
       did = part_map (part_then made (part_went b l.went l.asked))
-          (λ t w s. let T : Reply → Type 0 = λ x. Hands Anywhere (call.Expire now) x t w in inr (now, said.0, subst T said.1 (links, s)));
+          (λ t w s. let T : Reply → Type 0 = λ x. Hands Anywhere (call.Expire now) x t w in inr (said.0, subst T said.1 (links, s)));
       moment = l.moment;
       rested = rested_after a b m.others m.calls.meets r (m.leaves.out ∙ r.holds.out);
     }

@@ -136,6 +136,6 @@ pub record AttemptedStep {C R E : Type 0} (link : C → LinkView) (s : Span) (fr
   pub cause : AttemptedCause from to s.new.moment late result
   pub left : LeftOut link s.after result
 
--- a trip begins with one look for a connection that is expired
+-- a trip begins with one look for a connection that is due
 abbrev pub BegunBy : (Lateness → At → Work → Type 0) → Lateness → At → Work → Type 0
-BegunBy does late = Seq Expires (does late)
+BegunBy does late a w = (at : ℕ) × Seq (Expires at) (does late) a w

@@ -125,8 +125,8 @@ pub record LeftStep {C : Type 0} (link : C → LinkView) (old new : WireView) (l
   pub asked : new.asked ≡ old.asked
   pub moment : new.moment ≡ old.moment
 
-pub record ExpiredStep (s : Span) : Type 0 where
-  pub did : Part s Expires
+pub record ExpiredStep (s : Span) (now : ℕ) : Type 0 where
+  pub did : Part s (Expires now)
   pub moment : s.new.moment ≡ s.old.moment
   pub rested : IsRested s.after
 

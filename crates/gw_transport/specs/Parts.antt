@@ -1,6 +1,6 @@
 -- The parts of the way to a connection, as facts on a stretch of work. Entries of other callers may stand before each of
 -- the caller's own.
-use Rattle.std.specs.Prelude.{ℕ, zero, suc, ◌≡◌, ◌⊎◌, Bool, false, true, List, [], ◌∷◌, ◌++◌, map, Option}
+use Rattle.std.specs.Prelude.{ℕ, zero, suc, ◌≡◌, ◌⊎◌, Bool, false, true, List, [], ◌∷◌, ◌++◌, map, Option, None}
 use Rattle.gw_wire.specs.declared.values.Act.{Act}
 use Rattle.gw_wire.specs.declared.values.Act.TheVariants.{Closed, Dialed, DialFailed}
 use Rattle.gw_wire.specs.declared.values.Addr.{Addr}
@@ -69,9 +69,13 @@ abbrev pub Repeats : ℕ → (At → Work → Type 0) → At → Work → Type 0
 Repeats zero P a w = Sees free a w
 Repeats (suc n) P a w = Seq (Repeats n P) P a w
 
--- an idle connection that was due was taken out and closed, or none was
-abbrev pub Expires : At → Work → Type 0
-Expires a w = Sees free a w ⊎ ((at : ℕ) × (conn : ℕ) × Hands Anywhere (call.Expire at) (reply.Taken conn) a w)
+-- no idle connection was due at this moment
+abbrev pub NoneIsDue : ℕ → At → Work → Type 0
+NoneIsDue at a w = Sees free a w × (step a.limits (after a.limits (a.history ++ w.made)) a.caller (call.Expire at) ≡ None)
+
+-- the connection that was idle longest was due at this moment, and was taken out and closed; or none was due
+abbrev pub Expires : ℕ → At → Work → Type 0
+Expires at a w = NoneIsDue at a w ⊎ ((conn : ℕ) × Hands Anywhere (call.Expire at) (reply.Taken conn) a w)
 
 -- a want found an idle connection expired
 abbrev pub FindsExpired : ℕ → At → Work → Type 0

@@ -57,7 +57,7 @@ pub fn close_expired<W: Wire, L: Leases<W::Conn>>(wire: &mut W, leases: &mut L, 
     requires fresh { (W.wire wire.old).aged ≡ false }
     requires read { (W.wire wire.old).moment ≡ now }
     requires rested { IsRested (L.lent leases.old) }
-    ensures step { ExpiredStep (span (W.wire wire.old) (W.wire wire.new) (L.lent leases.old) (L.lent leases.new)) }
+    ensures step { ExpiredStep (span (W.wire wire.old) (W.wire wire.new) (L.lent leases.old) (L.lent leases.new)) now }
     ensures leases { L.keeper leases.new ≡ L.keeper leases.old }
 {
     let left = leases.expire(now);

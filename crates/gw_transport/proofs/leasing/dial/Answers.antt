@@ -1,4 +1,5 @@
-use Rattle.gw_transport.proofs.DialLemmas.{dial_done, dialed_served, granted_spent, late_done, other_done, spent, unreached_done, unstarted_served, waiting_spent}
+use Rattle.gw_transport.proofs.DialLemmas.{dial_done, dialed_served, other_done, unstarted_served}
+use Rattle.gw_transport.proofs.FailLemmas.{granted_spent, late_done, spent, unreached_done, waiting_spent}
 use Rattle.gw_transport.proofs.leasing.dial.Goals as goal
 
 pub take-requires-clause-served : goal.take-requires-clause-served
