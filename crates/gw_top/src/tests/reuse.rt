@@ -1,15 +1,18 @@
-// Connections to backends that are kept for later requests, or are not.
+//! Connections to backends that are kept for later requests, or are not.
 
 ghost use Rattle.std.specs.Prelude.{◌≡◌, ◌<◌, ◌≤◌, IfOk};
 ghost use Rattle.gw_wire.specs.World.{IsAlone};
 ghost use Rattle.gw_wire.specs.Memory.{wire_view};
 
 use super::{
-    AcceptEvent, Act, Call, DialEvent, Entry, Fail, MemWire, Moment, NOW, Offer, PASSED_REPLY,
+    AcceptEvent, Act, Call, DialEvent, Entry, MemWire, Moment, NOW, Offer, PASSED_REPLY,
     PeerText, REPLY, Reply, Script, file_of, run_gateway, sends, sends_all, words, world,
     written_to,
 };
 use std::alloc::{AllocError, Global};
+use std::sync::Wait;
+use std::test::Fail;
+use std::thread::Threads;
 
 // A wire with one client that sends these requests in one piece; its first backend sends these replies, and a second
 // one sends one reply.
@@ -69,6 +72,14 @@ fn went_idle(entry: &Entry) -> bool {
         )
 }
 
+// Whether the fourth entry is the last, and its connection went idle.
+fn ends_idle(journal: &[Entry]) -> bool {
+    match journal {
+        [_, _, _, back] => went_idle(back),
+        _ => false,
+    }
+}
+
 /// What `Connection` names stays behind, and with it the client's `close`, which is not the backend's.
 #[test]
 fn hop_by_hop(rt: HostRuntime) -> Result<(), Fail> {
@@ -90,91 +101,101 @@ fn hop_by_hop(rt: HostRuntime) -> Result<(), Fail> {
         written_to(alloc, acts, 1)?.as_slice(),
         b"HTTP/1.1 200 OK\r\nConnection: close\r\nContent-Length: 0\r\nDate: Sun, 06 Nov 1994 08:49:37 GMT\r\n\r\n".as_slice()
     );
-    match report.journal.as_slice() {
-        [_, _, _, back] => assert!(rt; went_idle(back)),
-        _ => panic!(rt; "four entries"),
-    }
+    assert!(rt; ends_idle(report.journal.as_slice()));
     assert_eq!(rt; closed(alloc, acts)?.as_slice(), [1, 2].as_slice());
     Ok(())
+}
+
+// The links that were dialed and closed for two requests whose first one is replied so, and whether the second got its
+// reply.
+fn links_of<R: Threads + Wait + Sync>(
+    rt: &R,
+    alloc: Global,
+    replies: &[&[u8]],
+) -> Result<(Vec<u64>, Vec<u64>, bool), Fail> {
+    let file = file_of(alloc, &["/"])?;
+    let requests =
+        b"GET /1 HTTP/1.1\r\nHost: a\r\n\r\nGET /2 HTTP/1.1\r\nHost: a\r\n\r\n";
+    let mut world = world(alloc, file.as_bytes(), wire_to(alloc, requests, replies)?)?;
+    let words = words(alloc, &["serve", "routes.json"])?;
+    let report = run_gateway(rt, alloc, words.as_slice(), &mut world);
+    let [worker] = report.workers.as_slice() else {
+        return Ok((Vec::new(alloc), Vec::new(alloc), false));
+    };
+    let acts = worker.wire.acts();
+    let text = written_to(alloc, acts, 1)?;
+    let replied = report.status == 0
+        && worker.entered == 2
+        && text.as_slice().ends_with(PASSED_REPLY);
+    Ok((dialed(alloc, acts)?, closed(alloc, acts)?, replied))
+}
+
+/// A reply, and the links that were dialed for it and the next one.
+type Reused = (&'static str, &'static [u64]);
+
+const REUSED: [Reused; 9] = [
+        ("HTTP/1.1 200 OK\r\nContent-Length: 2\r\n\r\nok", &[2]),
+        ("HTTP/1.1 204 No Content\r\n\r\n", &[2]),
+        (
+            "HTTP/1.1 200 OK\r\nTransfer-Encoding: chunked\r\n\r\n2\r\nok\r\n0\r\n\r\n",
+            &[2],
+        ),
+        ("HTTP/1.1 404 Not Found\r\nContent-Length: 0\r\n\r\n", &[2]),
+        (
+            "HTTP/1.1 200 OK\r\nConnection: Close\r\nContent-Length: 2\r\n\r\nok",
+            &[2, 3],
+        ),
+        ("HTTP/1.0 200 OK\r\nContent-Length: 2\r\n\r\nok", &[2, 3]),
+        ("HTTP/1.1 200 OK\r\nContent-Length: 2\r\n\r\nokX", &[2, 3]),
+        (
+            "HTTP/1.1 200 OK\r\nTransfer-Encoding: chunked\r\n\r\n2\r\nokX\r\n0\r\n\r\n",
+            &[2, 3],
+        ),
+        ("HTTP/1.1 100 Continue\r\n\r\n", &[2, 3]),
+    ];
+
+fn first_wrong<R: Threads + Wait + Sync>(
+    rt: &R,
+    alloc: Global,
+    rows: &[Reused],
+) -> Result<Option<&'static str>, Fail> {
+    for i in 0..rows.len() {
+        let (reply, links) = rows[i];
+        let (dialed, _, replied) = links_of(rt, alloc, &[reply.as_bytes(), REPLY])?;
+        if !replied || dialed.as_slice() != links {
+            return Ok(Some(reply));
+        }
+    }
+    Ok(None)
 }
 
 /// A connection serves the next request exactly where its reply was delimited and read to its end, nothing came behind
 /// it, and neither its version nor its fields say that it closes.
 #[test]
 fn reuse(rt: HostRuntime) -> Result<(), Fail> {
-    let alloc = rt.alloc();
-    let file = file_of(alloc, &["/"])?;
-    let kept: &[u64] = &[2];
-    let not_kept: &[u64] = &[2, 3];
-    for (reply, links) in [
-        ("HTTP/1.1 200 OK\r\nContent-Length: 2\r\n\r\nok", kept),
-        ("HTTP/1.1 204 No Content\r\n\r\n", kept),
-        (
-            "HTTP/1.1 200 OK\r\nTransfer-Encoding: chunked\r\n\r\n2\r\nok\r\n0\r\n\r\n",
-            kept,
-        ),
-        ("HTTP/1.1 404 Not Found\r\nContent-Length: 0\r\n\r\n", kept),
-        (
-            "HTTP/1.1 200 OK\r\nConnection: Close\r\nContent-Length: 2\r\n\r\nok",
-            not_kept,
-        ),
-        ("HTTP/1.0 200 OK\r\nContent-Length: 2\r\n\r\nok", not_kept),
-        ("HTTP/1.1 200 OK\r\nContent-Length: 2\r\n\r\nokX", not_kept),
-        (
-            "HTTP/1.1 200 OK\r\nTransfer-Encoding: chunked\r\n\r\n2\r\nokX\r\n0\r\n\r\n",
-            not_kept,
-        ),
-        ("HTTP/1.1 100 Continue\r\n\r\n", not_kept),
-    ] {
-        let mut requests = b"GET /1 HTTP/1.1\r\nHost: a\r\n\r\n".to_vec(alloc)?;
-        requests.extend_from_slice(b"GET /2 HTTP/1.1\r\nHost: a\r\n\r\n")?;
-        let wire = wire_to(alloc, &requests, &[reply.as_bytes(), REPLY])?;
-        let mut world = world(alloc, file.as_bytes(), wire)?;
-        let words = words(alloc, &["serve", "routes.json"])?;
-        let report = run_gateway(&rt, alloc, words.as_slice(), &mut world);
-        assert_eq!(rt; report.status, 0, "{reply}");
-        assert_eq!(rt; report.workers[0].entered, 2, "{reply}");
-        let acts = report.workers[0].wire.acts();
-        assert_eq!(rt; dialed(alloc, acts)?.as_slice(), links, "{reply}");
-        assert!(rt;
-            written_to(alloc, acts, 1)?
-                .as_slice()
-                .ends_with(PASSED_REPLY),
-            "{reply}"
-        );
-    }
+    assert_eq!(rt; first_wrong(&rt, rt.alloc(), &REUSED)?, None);
     Ok(())
+}
+
+// Whether the connection of this reply is closed before its client's, and the next request dials.
+fn is_closed_at_once<R: Threads + Wait + Sync>(
+    rt: &R,
+    alloc: Global,
+    reply: &str,
+) -> Result<bool, Fail> {
+    let (dialed, closed, replied) = links_of(rt, alloc, &[reply.as_bytes()])?;
+    Ok(replied && dialed.as_slice() == [2, 3].as_slice() && closed.as_slice() == [2, 1, 3].as_slice())
 }
 
 /// A connection whose reply goes up to the link's end, or that fails, is closed, and the next request dials.
 #[test]
 fn ended_connections_are_closed(rt: HostRuntime) -> Result<(), Fail> {
     let alloc = rt.alloc();
-    let file = file_of(alloc, &["/"])?;
-    for reply in [
-        "HTTP/1.1 200 OK\r\n\r\nhello",
-        "HTTP/1.1 200 OK\r\nContent-Length: 10\r\n\r\n1234",
-        "HTTP/1.1 20",
-    ] {
-        let mut requests = b"GET /1 HTTP/1.1\r\nHost: a\r\n\r\n".to_vec(alloc)?;
-        requests.extend_from_slice(b"GET /2 HTTP/1.1\r\nHost: a\r\n\r\n")?;
-        let wire = wire_to(alloc, &requests, &[reply.as_bytes()])?;
-        let mut world = world(alloc, file.as_bytes(), wire)?;
-        let words = words(alloc, &["serve", "routes.json"])?;
-        let report = run_gateway(&rt, alloc, words.as_slice(), &mut world);
-        assert_eq!(rt; report.status, 0);
-        let acts = report.workers[0].wire.acts();
-        assert_eq!(rt;
-            dialed(alloc, acts)?.as_slice(),
-            [2, 3].as_slice(),
-            "{reply}"
-        );
-        assert_eq!(rt;
-            closed(alloc, acts)?.as_slice(),
-            [2, 1, 3].as_slice(),
-            "{reply}"
-        );
-    }
+    assert!(rt; is_closed_at_once(&rt, alloc, "HTTP/1.1 200 OK\r\n\r\nhello")?);
+    assert!(rt;
+        is_closed_at_once(&rt, alloc, "HTTP/1.1 200 OK\r\nContent-Length: 10\r\n\r\n1234")?
+    );
+    assert!(rt; is_closed_at_once(&rt, alloc, "HTTP/1.1 20")?);
     Ok(())
 }
 
@@ -242,48 +263,60 @@ fn two_clients(alloc: Global, later: u64) -> Result<MemWire, AllocError>
     )
 }
 
-/// A connection that was idle too long is closed before the next exchange, whatever its host; one millisecond earlier
-/// it stays.
+// Whether the first connection was taken out as expired before the second request's want, and both went idle.
+fn expires_first(journal: &[Entry]) -> bool {
+    match journal {
+        [_, _, _, first, expire, want, _, _, second] => {
+            went_idle(first) && is_expired(expire) && wants_the_second(want) && went_idle(second)
+        }
+        _ => false,
+    }
+}
+
+fn is_expired(entry: &Entry) -> bool {
+    matches!(
+        &entry.call,
+        Call::Expire {
+            now: 784_111_778_001
+        }
+    ) && matches!(&entry.reply, Reply::Taken { conn: 0 })
+}
+
+fn wants_the_second(entry: &Entry) -> bool {
+    matches!(
+        &entry.call,
+        Call::Want {
+            host: 1,
+            now: 784_111_778_001
+        }
+    ) && matches!(&entry.reply, Reply::Granted { want: 1 })
+}
+
+const SHORT_IDLE: &[u8] =
+    b"{\"listen\":\"127.0.0.1:8080\",\"idle_ms\":1000,\"routes\":[{\"pattern\":\"/a\",\"backend\":\"http://127.0.0.1:9000\"},{\"pattern\":\"/b\",\"backend\":\"http://127.0.0.1:9001\"}]}";
+
+/// A connection that was idle too long is closed before the next exchange, whatever its host.
 #[test]
 fn due_expire(rt: HostRuntime) -> Result<(), Fail> {
     let alloc = rt.alloc();
-    let file =
-        b"{\"listen\":\"127.0.0.1:8080\",\"idle_ms\":1000,\"routes\":[{\"pattern\":\"/a\",\"backend\":\"http://127.0.0.1:9000\"},{\"pattern\":\"/b\",\"backend\":\"http://127.0.0.1:9001\"}]}";
     let words = words(alloc, &["serve", "routes.json"])?;
-    let mut due = world(alloc, file, two_clients(alloc, NOW + 1_001)?)?;
+    let mut due = world(alloc, SHORT_IDLE, two_clients(alloc, NOW + 1_001)?)?;
     let report = run_gateway(&rt, alloc, words.as_slice(), &mut due);
     assert_eq!(rt; report.status, 0);
     assert_eq!(rt;
         closed(alloc, report.workers[0].wire.acts())?.as_slice(),
         [1, 2, 3, 4].as_slice()
     );
-    match report.journal.as_slice() {
-        [_, _, _, first, expire, want, _, _, second] => {
-            assert!(rt; went_idle(first));
-            assert!(rt;
-                matches!(
-                    &expire.call,
-                    Call::Expire {
-                        now: 784_111_778_001
-                    }
-                )
-            );
-            assert!(rt; matches!(&expire.reply, Reply::Taken { conn: 0 }));
-            assert!(rt;
-                matches!(
-                    &want.call,
-                    Call::Want {
-                        host: 1,
-                        now: 784_111_778_001
-                    }
-                )
-            );
-            assert!(rt; matches!(&want.reply, Reply::Granted { want: 1 }));
-            assert!(rt; went_idle(second));
-        }
-        _ => panic!(rt; "nine entries"),
-    }
-    let mut early = world(alloc, file, two_clients(alloc, NOW + 1_000)?)?;
+    assert!(rt; expires_first(report.journal.as_slice()));
+    Ok(())
+}
+
+/// One millisecond earlier it stays.
+#[test]
+fn not_due(rt: HostRuntime) -> Result<(), Fail> {
+    let alloc = rt.alloc();
+    let words = words(alloc, &["serve", "routes.json"])?;
+    let mut early = world(alloc, SHORT_IDLE, two_clients(alloc, NOW + 1_000)?)?;
     let report = run_gateway(&rt, alloc, words.as_slice(), &mut early);
     assert_eq!(rt; report.status, 0);
     assert_eq!(rt;
