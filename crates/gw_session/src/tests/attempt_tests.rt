@@ -77,81 +77,141 @@ fn heard(alloc: Global, method: &Method, reply: &[u8], cut: usize) -> Result<Ans
     tried(alloc, &mut wire, method, events, Vec::new(alloc))
 }
 
-#[test]
-fn whole_replies(rt: HostRuntime) -> Result<(), Fail> {
-    for (method, reply, code, framing, body) in [
-        (
-            Method::GET,
-            LENGTH,
-            200,
-            Framing::Length(3),
-            b"hi\n".as_slice(),
-        ),
-        (Method::GET, CHUNKED, 200, Framing::Chunked, b"hi\n"),
-        (Method::GET, TO_END, 200, Framing::ToEnd, b"hi\n"),
-        (
-            Method::HEAD,
-            b"HTTP/1.1 200 OK\r\nContent-Length: 3\r\n\r\n",
-            200,
-            Framing::None,
-            b"",
-        ),
-        (
-            Method::GET,
-            b"HTTP/1.1 204 No Content\r\n\r\n",
-            204,
-            Framing::None,
-            b"",
-        ),
-    ] {
-        for cut in 0..=reply.len() {
-            let Answered::Whole(whole) = heard(rt.alloc(), &method, reply, cut)? else {
-                panic!(rt; "no whole reply at {cut}");
-            };
-            assert_eq!(rt; whole.head.code, code, "at {cut}");
-            assert_eq!(rt; whole.framing, framing, "at {cut}");
-            assert_eq!(rt; whole.body.as_slice(), body, "at {cut}");
+/// A reply to a request with this method, and what it is.
+#[derive(Drop)]
+struct Whole {
+    method: Method,
+    reply: &'static [u8],
+    code: u16,
+    framing: Framing,
+    body: &'static [u8],
+}
+
+fn is_whole(answered: &Answered, row: &Whole) -> bool {
+    match answered {
+        Answered::Whole(whole) => {
+            whole.head.code == row.code
+                && whole.framing == row.framing
+                && whole.body.as_slice() == row.body
+        }
+        _ => false,
+    }
+}
+
+// The first place at which the reply, cut there, isn't read whole.
+fn first_wrong_cut(alloc: Global, row: &Whole) -> Result<Option<usize>, AllocError> {
+    for cut in 0..=row.reply.len() {
+        let answered = heard(alloc, &row.method, row.reply, cut)?;
+        if !is_whole(&answered, row) {
+            return Ok(Some(cut));
         }
     }
+    Ok(None)
+}
+
+const BY_LENGTH: Whole = Whole {
+    method: Method::GET,
+    reply: LENGTH,
+    code: 200,
+    framing: Framing::Length(3),
+    body: b"hi\n",
+};
+
+const BY_CHUNKS: Whole = Whole {
+    method: Method::GET,
+    reply: CHUNKED,
+    code: 200,
+    framing: Framing::Chunked,
+    body: b"hi\n",
+};
+
+const BY_END: Whole = Whole {
+    method: Method::GET,
+    reply: TO_END,
+    code: 200,
+    framing: Framing::ToEnd,
+    body: b"hi\n",
+};
+
+const TO_HEAD: Whole = Whole {
+    method: Method::HEAD,
+    reply: b"HTTP/1.1 200 OK\r\nContent-Length: 3\r\n\r\n",
+    code: 200,
+    framing: Framing::None,
+    body: b"",
+};
+
+const EMPTY: Whole = Whole {
+    method: Method::GET,
+    reply: b"HTTP/1.1 204 No Content\r\n\r\n",
+    code: 204,
+    framing: Framing::None,
+    body: b"",
+};
+
+#[test]
+fn whole_replies(rt: HostRuntime) -> Result<(), Fail> {
+    let alloc = rt.alloc();
+    assert_eq!(rt; first_wrong_cut(alloc, &BY_LENGTH)?, None);
+    assert_eq!(rt; first_wrong_cut(alloc, &BY_CHUNKS)?, None);
+    assert_eq!(rt; first_wrong_cut(alloc, &BY_END)?, None);
+    assert_eq!(rt; first_wrong_cut(alloc, &TO_HEAD)?, None);
+    assert_eq!(rt; first_wrong_cut(alloc, &EMPTY)?, None);
     Ok(())
+}
+
+// Whether an attempt is broken over a link that sends this and then meets this.
+fn breaks(alloc: Global, front: &[u8], last: ConnEvent) -> Result<bool, AllocError> {
+    let mut events = Vec::new(alloc);
+    events.push(piece(alloc, front)?)?;
+    events.push(last)?;
+    let mut wire = wire(alloc)?;
+    let answered = tried(alloc, &mut wire, &Method::GET, events, Vec::new(alloc))?;
+    Ok(matches!(answered, Answered::Broken))
+}
+
+// The first length of a front of the reply behind which the link's end or its failure isn't told.
+fn first_unbroken(alloc: Global, reply: &[u8]) -> Result<Option<usize>, AllocError> {
+    for end in 0..reply.len() {
+        let front = &reply[..end];
+        if !breaks(alloc, front, ConnEvent::End)? || !breaks(alloc, front, ConnEvent::Failed)? {
+            return Ok(Some(end));
+        }
+    }
+    Ok(None)
 }
 
 #[test]
 fn cut_replies(rt: HostRuntime) -> Result<(), Fail> {
-    for reply in [LENGTH, CHUNKED] {
-        for end in 0..reply.len() {
-            for last in [ConnEvent::End, ConnEvent::Failed] {
-                let mut events = Vec::new(rt.alloc());
-                events.push(piece(rt.alloc(), &reply[..end])?)?;
-                events.push(last)?;
-                let mut wire = wire(rt.alloc())?;
-                let answered = tried(
-                    rt.alloc(),
-                    &mut wire,
-                    &Method::GET,
-                    events,
-                    Vec::new(rt.alloc()),
-                )?;
-                assert!(rt; matches!(answered, Answered::Broken), "at {end}");
-            }
+    let alloc = rt.alloc();
+    assert_eq!(rt; first_unbroken(alloc, LENGTH)?, None);
+    assert_eq!(rt; first_unbroken(alloc, CHUNKED)?, None);
+    Ok(())
+}
+
+const REFUSED: [&[u8]; 5] = [
+    b"HTTP/1.1 20 OK\r\n\r\n",
+    b"HTTP/2.0 200 OK\r\n\r\n",
+    b"HTTP/1.1 200 OK\r\nContent-Length: -1\r\n\r\n",
+    b"HTTP/1.1 100 Continue\r\n\r\nHTTP/1.1 200 OK\r\nContent-Length: 3\r\n\r\nhi\n",
+    b"HTTP/1.1 200 OK\r\nTransfer-Encoding: chunked\r\n\r\nx\r\n\r\n",
+];
+
+// The first place at which the reply, cut there, isn't refused.
+fn first_accepted(alloc: Global, reply: &[u8]) -> Result<Option<usize>, AllocError> {
+    for cut in 0..=reply.len() {
+        let answered = heard(alloc, &Method::GET, reply, cut)?;
+        if !matches!(answered, Answered::Broken) {
+            return Ok(Some(cut));
         }
     }
-    Ok(())
+    Ok(None)
 }
 
 #[test]
 fn refused_replies(rt: HostRuntime) -> Result<(), Fail> {
-    for reply in [
-        b"HTTP/1.1 20 OK\r\n\r\n".as_slice(),
-        b"HTTP/2.0 200 OK\r\n\r\n",
-        b"HTTP/1.1 200 OK\r\nContent-Length: -1\r\n\r\n",
-        b"HTTP/1.1 100 Continue\r\n\r\nHTTP/1.1 200 OK\r\nContent-Length: 3\r\n\r\nhi\n",
-        b"HTTP/1.1 200 OK\r\nTransfer-Encoding: chunked\r\n\r\nx\r\n\r\n",
-    ] {
-        for cut in 0..=reply.len() {
-            let answered = heard(rt.alloc(), &Method::GET, reply, cut)?;
-            assert!(rt; matches!(answered, Answered::Broken), "at {cut}");
-        }
+    for i in 0..REFUSED.len() {
+        assert_eq!(rt; first_accepted(rt.alloc(), REFUSED[i])?, None);
     }
     Ok(())
 }
@@ -166,24 +226,23 @@ fn endless_head(rt: HostRuntime) -> Result<(), Fail> {
     Ok(())
 }
 
+// What comes of a link that sends a front of a reply and ticks a million times.
+fn waited(alloc: Global, front: usize) -> Result<Answered, AllocError> {
+    let mut events = Vec::with_capacity(alloc, 1_000_001)?;
+    events.push(piece(alloc, &LENGTH[..front.min(LENGTH.len())])?)?;
+    for _tick in 0..1_000_000 {
+        events.push(ConnEvent::Tick)?;
+    }
+    let mut wire = wire(alloc)?;
+    tried(alloc, &mut wire, &Method::GET, events, Vec::new(alloc))
+}
+
 #[test]
 fn silent_link(rt: HostRuntime) -> Result<(), Fail> {
-    for front in [0, 20, LENGTH.len() - 1] {
-        let mut events = Vec::with_capacity(rt.alloc(), 1_000_001)?;
-        events.push(piece(rt.alloc(), &LENGTH[..front])?)?;
-        for _tick in 0..1_000_000 {
-            events.push(ConnEvent::Tick)?;
-        }
-        let mut wire = wire(rt.alloc())?;
-        let answered = tried(
-            rt.alloc(),
-            &mut wire,
-            &Method::GET,
-            events,
-            Vec::new(rt.alloc()),
-        )?;
-        assert!(rt; matches!(answered, Answered::Late), "at {front}");
-    }
+    let alloc = rt.alloc();
+    assert!(rt; matches!(waited(alloc, 0)?, Answered::Late));
+    assert!(rt; matches!(waited(alloc, 20)?, Answered::Late));
+    assert!(rt; matches!(waited(alloc, LENGTH.len() - 1)?, Answered::Late));
     Ok(())
 }
 
