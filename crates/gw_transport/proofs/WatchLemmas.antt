@@ -1,7 +1,7 @@
 -- What a look of a worker does.
 use Rattle.std.proofs.Common.{ℕ, zero, suc, ◌≡◌, ◌≢◌, ◌≤◌, ◌<◌, ◌+◌, ◌^◌, ◌==◌, ◌⊎◌, max, min, if◌then◌else◌, Bool, true, false, nat_le, List, [], ◌∷◌, ◌++◌, length, Option, Some, None, refl, ap, sym, subst, ◌∙◌, arith, inl, inr, append-nil}
 use Rattle.std.specs.Prelude.{IfSome}
-use Rattle.std.proofs.lemmas.Bool.{cases_lt, eq-eqb, leb-true}
+use Rattle.std.proofs.lemmas.Bool.{cases_lt, eq-eqb, le-leb, leb-true}
 use Rattle.std.proofs.lemmas.List.{get_or_past}
 use Rattle.std.proofs.lemmas.List.Elements.{All-cons, All-nil}
 use Rattle.gw_wire.specs.Causes.{Rose}
@@ -9,14 +9,14 @@ use Rattle.gw_context.specs.declared.parts.Cause.{Cause}
 use Rattle.gw_context.specs.declared.parts.Cause.TheVariants.{Canceled, DeadlineExceeded}
 use Rattle.gw_context.specs.declared.parts.Node.{Node}
 use Rattle.gw_context.specs.Node.{Climbs, Ends, Fate, IsLive, IsUnderDue, Under, is_due, node_at, root}
-use Rattle.gw_context.specs.Tree.{Advanced, TreeView}
+use Rattle.gw_context.specs.Tree.{Advanced, TreeView, added, timed_child_of}
 use Rattle.gw_ctxwords.specs.Calls as ctx
 use Rattle.gw_ctxwords.specs.declared.answers.Looked.TheVariants as looked
 use Rattle.gw_ctxwords.specs.declared.nodes.NodeSpec.{NodeSpec}
 use Rattle.gw_ctxwords.specs.declared.view.CtxView.{CtxView}
 use Rattle.gw_gate.specs.Seat as gate
 use Rattle.gw_transport.specs.Guard.{CancelsOnlyBase, GuardGoes, GuardView, IsBefore, IsDue, IsPast, ShutGoes}
-use Rattle.gw_transport.specs.Watch.{CtxStep, GateStep, IsLeast, IsRunning, is_no_later, seats_of, times_found, watched}
+use Rattle.gw_transport.specs.Watch.{CtxStep, FirstDeadlineIsLeast, GateStep, IsLeast, IsRunning, is_no_later, seats_of, times_found, watched}
 
 -- ---- the tree
 
@@ -93,6 +93,38 @@ pub live_before : (moment : ℕ) (old new : TreeView) (node : ℕ) → Advanced 
 live_before moment old new node a live law =
     let here = node_kept DeadlineExceeded (IsUnderDue old.nodes moment) old.nodes new.nodes node a.ends in
     subst (λ (o : Option ℕ). IsBefore o moment) here.deadline (before_of (node_at new.nodes node).deadline new.last moment (let m = a.last in omega arith) (law node live))
+
+-- ---- the first node under a root
+
+no_later_same : (at : ℕ) → is_no_later (Some at) (Some at) ≡ true
+no_later_same at = le-leb at at (omega arith)
+
+abbrev timed_alone : ℕ → ℕ → List Node
+timed_alone last at = root ∷ timed_child_of (record { last = last; nodes = root ∷ [] }) 0 at ∷ []
+
+above_first : (last at above steps : ℕ) → Climbs (timed_alone last at) steps 1 above
+    → is_no_later (node_at (timed_alone last at) 1).deadline (node_at (timed_alone last at) above).deadline ≡ true
+above_first last at above zero c =
+    let P : ℕ → Type 0 = λ i. is_no_later (Some at) (node_at (timed_alone last at) i).deadline ≡ true in subst P c (no_later_same at)
+above_first last at above (suc zero) c =
+    let P : ℕ → Type 0 = λ i. is_no_later (Some at) (node_at (timed_alone last at) i).deadline ≡ true in subst P c.1 refl
+above_first last at above (suc (suc steps)) c = absurd (let bad : false ≡ true = c.1.0 in cc)
+
+born_running : (last at : ℕ) (due : Bool) → (if due then Some DeadlineExceeded else None) ≢ Some Canceled
+born_running last at true e = cc
+born_running last at false e = cc
+
+first_by : (nodes : List Node) (last at : ℕ) → nodes ≡ root ∷ []
+    → IsRunning (added (record { last = last; nodes = nodes }) (timed_child_of (record { last = last; nodes = nodes }) 0 at)) 1
+    × IsLeast (added (record { last = last; nodes = nodes }) (timed_child_of (record { last = last; nodes = nodes }) 0 at)).nodes 1
+first_by nodes last at e =
+    let tree : List Node → TreeView = λ l. record { last = last; nodes = l } in
+    let made : List Node → TreeView = λ l. added (tree l) (timed_child_of (tree l) 0 at) in
+    let T : List Node → Type 0 = λ l. IsRunning (made l) 1 × IsLeast (made l).nodes 1 in
+    subst T (sym e) (born_running last at (is_due last (Some at)), λ above u. above_first last at above u.0 u.1)
+
+pub first_least : FirstDeadlineIsLeast
+first_least tree at e = first_by tree.nodes tree.last at e
 
 -- ---- the words
 

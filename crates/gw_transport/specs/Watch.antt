@@ -4,8 +4,8 @@ use Rattle.atomic_table.specs.Seated.{TableId}
 use Rattle.gw_context.specs.declared.parts.Cause.{Cause}
 use Rattle.gw_context.specs.declared.parts.Cause.TheVariants.{Canceled}
 use Rattle.gw_context.specs.declared.parts.Node.{Node}
-use Rattle.gw_context.specs.Node.{Under, node_at}
-use Rattle.gw_context.specs.Tree.{TreeView}
+use Rattle.gw_context.specs.Node.{Under, node_at, root}
+use Rattle.gw_context.specs.Tree.{TreeView, added, timed_child_of}
 use Rattle.gw_ctxwords.specs.Calls as ctx
 use Rattle.gw_gate.specs.Seat as gate
 use Rattle.gw_transport.specs.Guard.{GuardView}
@@ -61,6 +61,12 @@ is_no_later (Some deadline) (Some other) = nat_le deadline other
 -- the node's deadline is the least of those of the nodes that it ends with
 abbrev pub IsLeast : List Node → ℕ → Type 0
 IsLeast nodes node = (above : ℕ) → Under nodes above node → is_no_later (node_at nodes node).deadline (node_at nodes above).deadline ≡ true
+
+-- under a root without a deadline a node made by `with_deadline` wasn't cancelled, and its deadline is the least
+abbrev pub FirstDeadlineIsLeast : Type 0
+FirstDeadlineIsLeast =
+    (tree : TreeView) (at : ℕ) → tree.nodes ≡ root ∷ []
+    → IsRunning (added tree (timed_child_of tree 0 at)) 1 × IsLeast (added tree (timed_child_of tree 0 at)).nodes 1
 
 -- the moment at which the gate is first seen shut is noted
 pub record GateStep (before now : gate.SeatState) (noted noting : Option ℕ) (moment : ℕ) : Type 0 where

@@ -9,7 +9,9 @@ mod watch;
 pub use attempts::{Attempt, Attempted, Errand, Tried, make_trip};
 pub use guard::{Guard, Sight};
 pub use leasing::{Leased, close_expired, end_lease, lease};
-pub use watch::Watch;
+pub use watch::{Watch, first_deadline_is_least};
 
 #[cfg(test)]
 mod tests;
+#[cfg(test)]
+mod watch_tests;

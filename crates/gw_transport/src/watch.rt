@@ -2,7 +2,7 @@
 
 ghost use Rattle.std.specs.Prelude.{◌≡◌, ◌≤◌, ◌<◌, length};
 ghost use Rattle.gw_transport.specs.Guard.{LookStep};
-ghost use Rattle.gw_transport.specs.Watch.{CtxStep, GateStep, IsLeast, IsRunning, Keeper, seats_of, watched};
+ghost use Rattle.gw_transport.specs.Watch.{CtxStep, FirstDeadlineIsLeast, GateStep, IsLeast, IsRunning, Keeper, seats_of, watched};
 
 use crate::guard::{Guard, Sight};
 use gw_context::{Cause, Tree, expired_under_due, live_before_deadline};
@@ -12,6 +12,7 @@ use gw_gate::{Gate, GateSeat, Look};
 /// What a trip of a worker looks at before it waits. It is cancelled where the word of the worker's own node was read
 /// ended, and late where the deadline of its node of the tree has come. A worker that sees the gate shut notes the moment;
 /// where a later look is more than the time of grace past it, that look cancels the base, node 0 of the shared contexts.
+#[derive(Drop)]
 pub struct Watch<'a> {
     /// The deadlines of the session.
     pub tree: &'a mut Tree,
@@ -98,3 +99,9 @@ fn cancel_past(ctx: &CtxTable, seat: &mut CtxSeat, shut_at: Option<u64>, grace_m
         let _first = ctx.cancel(seat, 0, Cause::Canceled);
     }
 }
+
+/// A node that is made by `Tree::with_deadline` under a root alone, which has no deadline, meets what `Watch` asks of its
+/// node.
+pub fn first_deadline_is_least()
+    ensures { FirstDeadlineIsLeast }
+{}
