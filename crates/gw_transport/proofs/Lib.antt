@@ -2,8 +2,11 @@ mod CallLemmas
 mod DialLemmas
 mod EndLemmas
 mod GuardLemmas
+mod InboxLemmas
 mod LeaseLemmas
+mod LinkLemmas
 mod RestLemmas
+mod SendLemmas
 mod SeqLemmas
 mod StretchLemmas
 mod WaitLemmas

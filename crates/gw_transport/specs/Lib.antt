@@ -2,3 +2,5 @@ pub mod Guard
 pub mod Stretch
 pub mod Parts
 pub mod Leasing
+pub mod Waits
+pub mod Inbox

@@ -10,7 +10,7 @@ use gw_wire::{Accept, Act, Addr, DialEvent, MemConn, MemWire, Moment, Script, Wi
 use std::alloc::{AllocError, Global};
 use std::test::Fail;
 
-const NOW: u64 = 784_111_777_000;
+pub(crate) const NOW: u64 = 784_111_777_000;
 
 const BACKEND: Addr = Addr {
     local: true,
@@ -20,9 +20,9 @@ const BACKEND: Addr = Addr {
 
 /// A guard whose trip is over at a moment, or cancelled.
 #[derive(Drop)]
-struct Alarm {
-    deadline: u64,
-    cancelled: bool,
+pub(crate) struct Alarm {
+    pub(crate) deadline: u64,
+    pub(crate) cancelled: bool,
     last: u64,
     cancels: u64,
 }
@@ -64,7 +64,7 @@ impl Guard for Alarm {
     }
 }
 
-fn half_a_minute() -> Alarm
+pub(crate) fn half_a_minute() -> Alarm
     ensures { result.last ≡ 0 }
 {
     Alarm {
