@@ -1,5 +1,5 @@
 -- Steps of a wait for a link, over plain variables.
-use Rattle.std.proofs.Common.{ℕ, ◌≡◌, ◌≤◌, ◌<◌, ◌+◌, false, List, [], ◌∷◌, ◌++◌, length, take, Option, Some, None, refl, ap, sym, subst, ◌∙◌, arith, inl, inr}
+use Rattle.std.proofs.Common.{ℕ, ◌≡◌, ◌≤◌, ◌+◌, false, List, [], ◌++◌, take, Option, Some, None, refl, ap, sym, subst, ◌∙◌, arith, inl, inr}
 use Rattle.std.proofs.lemmas.List.{length-take-le}
 use Rattle.gw_wire.specs.declared.traits.Read.TheVariants as reads
 use Rattle.gw_wire.specs.declared.traits.Write.TheVariants as writes
@@ -12,18 +12,18 @@ use Rattle.gw_wire.specs.Stretch.{Acts, Then}
 use Rattle.gw_wire.specs.Wire.{WireView, Later, NowStep}
 use Rattle.gw_wire.specs.WriteStep.{WriteStep}
 use Rattle.gw_wire.proofs.Facts.{later_same, later_then, link_same, link_then, Logs-none, Logs-quiet}
-use Rattle.gw_account.specs.Did.{Went}
-use Rattle.gw_account.specs.Work.{Bill, Work, At, Seq, both, free, Only}
-use Rattle.gw_account.proofs.Facts.{went_map, went_then}
+use Rattle.gw_pool.specs.Lent.{Lent}
+use Rattle.gw_account.specs.Did.{span}
+use Rattle.gw_account.specs.Work.{Bill, Work, At, Seq, at_of, both, free, Only}
+use Rattle.gw_account.proofs.Facts.{doing_went, went_map, went_then}
 use Rattle.gw_transport.specs.declared.waits.Heard.TheVariants as heard
 use Rattle.gw_transport.specs.declared.waits.Limit.{Limit}
 use Rattle.gw_transport.specs.declared.waits.Loss.TheVariants as loss
 use Rattle.gw_transport.specs.declared.waits.Stop.{Stop}
 use Rattle.gw_transport.specs.declared.waits.Stop.TheVariants as stops
-use Rattle.gw_transport.specs.declared.waits.Taken.{Taken}
 use Rattle.gw_transport.specs.declared.waits.Taken.TheVariants as taken
 use Rattle.gw_transport.specs.Guard.{GuardView, GuardGoes, IsBefore}
-use Rattle.gw_transport.specs.Stretch.{Asked, Watched}
+use Rattle.gw_transport.specs.Stretch.{Asked, Stretch, Watched}
 use Rattle.gw_transport.specs.Waits.{Side, side, Waited, CheckStep, HeardStep, StopCause, TakenStep, stop_bill}
 use Rattle.gw_transport.proofs.GuardLemmas.{guard_later, guard_same, guard_then}
 use Rattle.gw_transport.proofs.StretchLemmas.{watched_then}
@@ -106,6 +106,16 @@ waited_free a b acts watched later fresh log =
 -- nothing was done
 pub waited_same : (w : WireView) (g : GuardView) → w.aged ≡ false → g.last ≤ w.moment → Waited (side w g) (side w g) free (Acts [])
 waited_same w g fresh le = waited_free (side w g) (side w g) [] (watched_same w g le) (later_same w) fresh (Logs-none w.log)
+
+-- such calls, while nobody called the pool, are a stretch of work
+pub stretch_waited : {a b : Side} {u : Bill} {P : List Act → Type 0} (pool : Lent) → Waited a b u P
+    → Stretch (span a.wire b.wire pool pool) a.guard b.guard (Only u P)
+stretch_waited {a} {b} {u} {P} pool p = record {
+  work = p.went.work;
+  doing = doing_went a.wire b.wire pool p.went.work p.went.fresh p.went.wired p.went.made p.went.rests;
+  watched = p.watched;
+  does = p.went.does (at_of a.wire pool);
+}
 
 -- ---- a wait that goes on
 

@@ -1,5 +1,5 @@
 -- Waits behind a reading of the clock, and rows of writes.
-use Rattle.std.proofs.Common.{ℕ, ◌≡◌, ◌≤◌, ◌<◌, ◌+◌, ◌-◌, nat_lt, Bool, false, List, [], ◌∷◌, ◌++◌, length, take, drop, refl, ap, sym, subst, ◌∙◌, arith, append-nil, length-drop}
+use Rattle.std.proofs.Common.{ℕ, ◌≡◌, ◌≤◌, ◌+◌, ◌-◌, nat_lt, Bool, false, List, [], ◌∷◌, ◌++◌, length, take, drop, refl, ap, sym, subst, ◌∙◌, arith, append-nil, length-drop}
 use Rattle.std.proofs.lemmas.Bool.{eq-eqb}
 use Rattle.std.proofs.lemmas.List.{length-take-le, take-append-drop}
 use Rattle.std.proofs.lemmas.List.Elements.{All-nil, All-push}
@@ -12,7 +12,7 @@ use Rattle.gw_wire.specs.Link.{LinkView, LinkLater}
 use Rattle.gw_wire.specs.Stretch.{Acts, Then}
 use Rattle.gw_wire.specs.Wire.{WireView, NowStep}
 use Rattle.gw_wire.proofs.Facts.{link_same, link_then}
-use Rattle.gw_account.specs.Work.{Bill, free, both}
+use Rattle.gw_account.specs.Work.{Bill, free}
 use Rattle.gw_account.proofs.Facts.{free_both}
 use Rattle.gw_transport.specs.declared.waits.Heard.{Heard}
 use Rattle.gw_transport.specs.declared.waits.Heard.TheVariants as heard
@@ -22,7 +22,7 @@ use Rattle.gw_transport.specs.declared.waits.Stop.{Stop}
 use Rattle.gw_transport.specs.declared.waits.Stop.TheVariants as stops
 use Rattle.gw_transport.specs.declared.waits.Taken.TheVariants as taken
 use Rattle.gw_transport.specs.Guard.{GuardView}
-use Rattle.gw_transport.specs.Waits.{Side, side, Waited, HeardCause, HeardStep, IsWriteOf, Says, SentStep, StopCause, TakenStep, Writes}
+use Rattle.gw_transport.specs.Waits.{Side, side, Waited, HeardCause, HeardStep, IsWriteOf, SentStep, StopCause, TakenStep, Writes}
 use Rattle.gw_transport.proofs.LinkLemmas.{rose_from, waited_free, waited_map, waited_same, waited_then, watched_now, watched_same}
 
 -- ---- behind calls that log nothing

@@ -1,5 +1,5 @@
 -- Waits for a link beside a guard: rows of reads, or of writes, in which nothing comes or goes.
-use Rattle.std.specs.Prelude.{ℕ, ◌≡◌, ◌<◌, ◌≤◌, ◌+◌, ◌++◌, nat_lt, Bool, List, [], ◌∷◌, length, take, All, Option, Some, None}
+use Rattle.std.specs.Prelude.{ℕ, ◌≡◌, ◌<◌, ◌≤◌, ◌+◌, ◌++◌, nat_lt, List, [], ◌∷◌, length, take, All, Option, Some, None}
 use Rattle.gw_wire.specs.declared.values.Act.{Act}
 use Rattle.gw_wire.specs.declared.values.Act.TheVariants.{Read, Wrote, ReadFailed, WriteFailed}
 use Rattle.gw_wire.specs.declared.values.Act.TheVariants.{End as LinkEnd}
