@@ -4,8 +4,11 @@ mod DialLemmas
 mod EndLemmas
 mod FailLemmas
 mod GuardLemmas
+mod InboxLemmas
 mod LeaseLemmas
+mod LinkLemmas
 mod RestLemmas
+mod SendLemmas
 mod SeqLemmas
 mod StretchLemmas
 mod WaitLemmas

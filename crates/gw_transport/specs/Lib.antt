@@ -4,3 +4,5 @@ pub mod Parts
 pub mod Leasing
 pub mod Attempts
 pub mod Watch
+pub mod Waits
+pub mod Inbox

@@ -3,15 +3,23 @@
 
 mod attempts;
 mod guard;
+mod inbox;
 mod leasing;
+mod waits;
 mod watch;
 
 pub use attempts::{Attempt, Attempted, Errand, Tried, make_trip};
 pub use guard::{Guard, Sight};
+pub use inbox::Inbox;
 pub use leasing::{Leased, close_expired, end_lease, lease};
+pub use waits::{
+    Heard, Limit, Loss, Sent, Stop, Taken, read_some, read_within, write_all, write_within,
+};
 pub use watch::{Watch, first_deadline_is_least};
 
 #[cfg(test)]
 mod tests;
+#[cfg(test)]
+mod wait_tests;
 #[cfg(test)]
 mod watch_tests;

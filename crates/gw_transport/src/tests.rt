@@ -13,7 +13,7 @@ use http::Method;
 use std::alloc::{AllocError, Global};
 use std::test::Fail;
 
-const NOW: u64 = 784_111_777_000;
+pub(crate) const NOW: u64 = 784_111_777_000;
 
 const BACKEND: Addr = Addr {
     local: true,
@@ -23,9 +23,9 @@ const BACKEND: Addr = Addr {
 
 /// A guard whose trip is over at a moment, or cancelled.
 #[derive(Drop)]
-struct Alarm {
-    deadline: u64,
-    cancelled: bool,
+pub(crate) struct Alarm {
+    pub(crate) deadline: u64,
+    pub(crate) cancelled: bool,
     last: u64,
     cancels: u64,
 }
@@ -67,7 +67,7 @@ impl Guard for Alarm {
     }
 }
 
-fn half_a_minute() -> Alarm
+pub(crate) fn half_a_minute() -> Alarm
     ensures { result.last ≡ 0 }
 {
     Alarm {
