@@ -23,7 +23,7 @@ use Rattle.gw_transport.specs.declared.attempts.Attempted.TheVariants as attempt
 use Rattle.gw_transport.specs.declared.attempts.Tried.{Tried}
 use Rattle.gw_transport.specs.declared.attempts.Tried.TheVariants as tried
 use Rattle.gw_transport.specs.declared.leasing.Leased.TheVariants as leased
-use Rattle.gw_transport.specs.Attempts.{AttemptStep, AttemptedBy, AttemptedCause, AttemptedStep, BegunBy, Behind, ErrandView, FailureCause, Fails, Misses, Retries, Tries, TriesInVain, may_go_on}
+use Rattle.gw_transport.specs.Attempts.{AttemptStep, AttemptedBy, AttemptedCause, AttemptedStep, BegunBy, Behind, ErrandView, FailureCause, FailedOnce, Misses, Retries, Tries, TriesInVain, may_go_on}
 use Rattle.gw_transport.specs.Guard.{GuardView, IsDue}
 use Rattle.gw_transport.specs.Leasing.{Clearing, EndStep, ExpiredStep, IsLate, IsLeased, IsRested, Lateness, LeasedBy, LeasedStep}
 use Rattle.gw_transport.specs.Parts.{Anywhere, Ends, Expires, IsRefused, Leases, Sees, Unreached}
@@ -100,7 +100,7 @@ trying_more {R = R} {E = E} link Does errand old x y z u a b c d f g h k m mid t
     let P : ConnRow → At → Work → Type 0 = λ row. Does mid to row.link (tried.Failed why) t.late in
     let Q : ConnRow → At → Work → Type 0 = λ row q w. (late : Lateness) × Does mid to row.link (tried.Failed why) late q w in
     let vain = came_in_vain link Does errand x y z u b c d g h k mid to l (tried.Failed why) s t e in
-    let fails : Stretch (span x u b d) g k (Fails errand true (suc n) why Q) =
+    let fails : Stretch (span x u b d) g k (FailedOnce errand true (suc n) why Q) =
     stretch_map vain (λ p w q. let row = row_of p.caller l in (l.want, row, go, vain_map errand l.want row P Q (λ i v does. (t.late, does)) p w q)) in
     record {
       did = subst (λ (i : ℕ). Stretch (span old u a d) f k (Retries Does errand i m to)) next
@@ -198,7 +198,7 @@ tried_last {C = C} {R = R} {E = E} link Does errand old x y z u a b c d f g h k 
     let final = subst (λ (i : ℕ). may_retry_of why l.reused errand.method errand.has_key errand.body i ≡ false) (sym next) last in
     let att : ConnRow → At → Work → Type 0 = λ row. Does mid to row.link (tried.Failed why) t.late in
     let vain = came_in_vain link Does errand x y z u b c d g h k mid to l (tried.Failed why) s t e in
-    let P : ℕ → _ → At → Work → Type 0 = λ i j q w. Fails errand false (suc i) why (λ row. Does j to row.link (tried.Failed why) t.late) q w ⊎ ((to ≡ j) × Misses errand.host t.late why q w) in
+    let P : ℕ → _ → At → Work → Type 0 = λ i j q w. FailedOnce errand false (suc i) why (λ row. Does j to row.link (tried.Failed why) t.late) q w ⊎ ((to ≡ j) × Misses errand.host t.late why q w) in
     record {
       late = t.late;
       did = behind_tries Does errand old x u a b d f g k m mid n P p (stretch_map vain (λ q w i. inl (l.want, row_of q.caller l, final, i)));
@@ -242,7 +242,7 @@ pub tried_cancelled : {C M R E : Type 0} (link : C → LinkView) (Does : M → M
     → AttemptedStep {C = C} {R = R} {E = E} link (span old y a c) f h (AttemptedBy {C = C} Does errand m mid (attempted.Failed failure.Cancelled)) (attempted.Failed failure.Cancelled)
 tried_cancelled link Does errand old x y a b c f g h m mid n p s =
     let P : ℕ → _ → At → Work → Type 0 = λ i j q w.
-    Fails errand false (suc i) failure.Cancelled (λ row. Does j mid row.link (tried.Failed failure.Cancelled) s.late) q w ⊎ ((mid ≡ j) × Misses errand.host s.late failure.Cancelled q w) in
+    FailedOnce errand false (suc i) failure.Cancelled (λ row. Does j mid row.link (tried.Failed failure.Cancelled) s.late) q w ⊎ ((mid ≡ j) × Misses errand.host s.late failure.Cancelled q w) in
     record {
       late = s.late;
       did = behind_tries Does errand old x y a b c f g h m mid n P p (stretch_map s.did (λ q w k. inr (refl, k)));
@@ -256,7 +256,7 @@ pub tried_late : {C M R E : Type 0} (link : C → LinkView) (Does : M → M → 
     → AttemptedStep {C = C} {R = R} {E = E} link (span old y a c) f h (AttemptedBy {C = C} Does errand m mid (attempted.Failed failure.Deadline)) (attempted.Failed failure.Deadline)
 tried_late link Does errand old x y a b c f g h m mid n p s =
     let P : ℕ → _ → At → Work → Type 0 = λ i j q w.
-    Fails errand false (suc i) failure.Deadline (λ row. Does j mid row.link (tried.Failed failure.Deadline) s.late) q w ⊎ ((mid ≡ j) × Misses errand.host s.late failure.Deadline q w) in
+    FailedOnce errand false (suc i) failure.Deadline (λ row. Does j mid row.link (tried.Failed failure.Deadline) s.late) q w ⊎ ((mid ≡ j) × Misses errand.host s.late failure.Deadline q w) in
     record {
       late = s.late;
       did = behind_tries Does errand old x y a b c f g h m mid n P p (stretch_map s.did (λ q w k. inr (refl, k)));

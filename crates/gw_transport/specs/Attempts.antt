@@ -77,8 +77,8 @@ abbrev pub TriesInVain : ErrandView → (ConnRow → At → Work → Type 0) →
 TriesInVain errand attempt want row = Seq (Tries errand want row (attempt row)) (Ends false row.conn)
 
 -- the attempt of this number failed, and another one may follow or may not
-abbrev pub Fails : ErrandView → Bool → ℕ → Failure → (ConnRow → At → Work → Type 0) → At → Work → Type 0
-Fails errand more number why attempt a w =
+abbrev pub FailedOnce : ErrandView → Bool → ℕ → Failure → (ConnRow → At → Work → Type 0) → At → Work → Type 0
+FailedOnce errand more number why attempt a w =
     (want : ℕ) × (row : ConnRow) × (may_go_on errand why row number ≡ more) × TriesInVain errand attempt want row a w
 
 -- so many attempts failed, behind each of which another one may follow
@@ -86,7 +86,7 @@ abbrev pub Retries : {M R E : Type 0} → (M → M → ℕ → Tried R E → Lat
 Retries Does errand zero from to a w = (to ≡ from) × Sees free a w
 Retries {M} Does errand (suc n) from to a w =
     (mid : M) × (why : Failure)
-    × Seq (Retries Does errand n from mid) (Fails errand true (suc n) why (λ row b v. (late : Lateness) × Does mid to row.link (tried.Failed why) late b v)) a w
+    × Seq (Retries Does errand n from mid) (FailedOnce errand true (suc n) why (λ row b v. (late : Lateness) × Does mid to row.link (tried.Failed why) late b v)) a w
 
 -- fewer than eight attempts failed so, and this came behind them
 abbrev pub Behind : {M R E : Type 0} → (M → M → ℕ → Tried R E → Lateness → At → Work → Type 0) → ErrandView → M → (ℕ → M → At → Work → Type 0) → At → Work → Type 0
@@ -107,7 +107,7 @@ abbrev pub AttemptedBy : {C M R E : Type 0} → (M → M → ℕ → Tried R E �
 AttemptedBy Does errand from to (attempted.Reply l r) late a w =
     Behind Does errand from (λ n mid b v. Tries errand l.want (row_of a.caller l) (Does mid to l.link (tried.Reply r) late) b v) a w
 AttemptedBy Does errand from to (attempted.Failed why) late a w =
-    Behind Does errand from (λ n mid b v. Fails errand false (suc n) why (λ row. Does mid to row.link (tried.Failed why) late) b v ⊎ ((to ≡ mid) × Misses errand.host late why b v)) a w
+    Behind Does errand from (λ n mid b v. FailedOnce errand false (suc n) why (λ row. Does mid to row.link (tried.Failed why) late) b v ⊎ ((to ≡ mid) × Misses errand.host late why b v)) a w
 AttemptedBy Does errand from to (attempted.Over e) late a w =
     Behind Does errand from (λ n mid b v. (want : ℕ) × (row : ConnRow) × TriesInVain errand (λ r. Does mid to r.link (tried.Over e) late) want row b v) a w
 AttemptedBy Does errand from to attempted.Unreachable late a w =
