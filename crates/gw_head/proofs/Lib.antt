@@ -8,7 +8,9 @@ mod HeadLemmas
 mod LineLemmas
 mod MarkLemmas
 mod PieceLemmas
+mod Plain
 mod ReaderLemmas
 mod Rows
 mod WholeLemmas
+mod WrittenReply
 pub mod FeedLemmas

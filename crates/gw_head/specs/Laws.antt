@@ -1,9 +1,10 @@
 -- Laws of the end mark and of heads.
-use Rattle.std.specs.Prelude.{◌≡◌, ℕ, List, [], ◌++◌, length, Some}
+use Rattle.std.specs.Prelude.{◌≡◌, ℕ, ◌≤◌, List, [], ◌++◌, length, Some}
 use Rattle.httparse.specs.Grammar.{RequestHead as RequestParts, print_request, ReadsRequest, ResponseHead as ReplyParts, print_response, ReadsResponse}
 use Rattle.gw_head.specs.declared.error.HeadError.{HeadError}
-use Rattle.gw_head.specs.Head.{RequestHeadOf, BadRequestHead, ReplyHeadOf, BadReplyHead}
-use Rattle.gw_head.specs.Mark.{head_end}
+use Rattle.gw_head.specs.Head.{RequestHeadOf, BadRequestHead, reply_head_of, ReplyHeadOf, BadReplyHead}
+use Rattle.gw_head.specs.Mark.{head_end, head_limit}
+use Rattle.gw_head.specs.Written.{IsPlainReply, reply_text}
 
 -- a request's head of the grammar, whatever follows, ends with the end mark
 abbrev pub RequestEndsAtMark : Type 0
@@ -46,3 +47,10 @@ NoRequestBeginsAnother = IsPrefixFree RequestHeadOf
 
 abbrev pub NoReplyBeginsAnother : Type 0
 NoReplyBeginsAnother = IsPrefixFree ReplyHeadOf
+
+-- a reply's head that is written plainly, and no longer than a head may be, is read with just its parts
+abbrev pub WrittenReplyIsRead : Type 0
+WrittenReplyIsRead =
+    (minor code : ℕ) (phrase : List ℕ) (fields : List (List ℕ × List ℕ)) → IsPlainReply minor code phrase fields
+    → length (reply_text minor code phrase fields) ≤ head_limit
+    → ReplyHeadOf (reply_text minor code phrase fields) (reply_head_of minor code fields)

@@ -1,5 +1,5 @@
 //! Laws of the definitions, each the contract of a function that does nothing.
-ghost use Rattle.gw_head.specs.Laws.{RequestEndsAtMark, ReplyEndsAtMark, MarkStays, OneRequestAnswer, OneReplyAnswer, NoRequestBeginsAnother, NoReplyBeginsAnother};
+ghost use Rattle.gw_head.specs.Laws.{RequestEndsAtMark, ReplyEndsAtMark, MarkStays, OneRequestAnswer, OneReplyAnswer, NoRequestBeginsAnother, NoReplyBeginsAnother, WrittenReplyIsRead};
 
 /// A head that the grammar of `httparse` reads at the front of some bytes ends with the end mark of those bytes.
 pub fn grammar_ends_at_mark()
@@ -18,4 +18,10 @@ pub fn no_head_begins_another()
     ensures mark { MarkStays }
     ensures requests { NoRequestBeginsAnother }
     ensures replies { NoReplyBeginsAnother }
+{}
+
+/// A reply's head of at most 65,536 bytes and 128 fields that is written plainly (each line ended by CR LF, one space
+/// before each value), whose parts fail no check, is read with just these parts.
+pub fn written_heads_are_read()
+    ensures { WrittenReplyIsRead }
 {}
