@@ -14,3 +14,4 @@ mod Rows
 mod WholeLemmas
 mod WrittenReply
 pub mod FeedLemmas
+pub mod Facts

@@ -16,7 +16,7 @@ use Rattle.gw_head.specs.declared.error.HeadError.TheVariants.{Malformed, BadLen
 use Rattle.gw_head.specs.declared.reply.ReplyHead.{ReplyHead}
 use Rattle.gw_head.specs.Fields.{fields_of, values_named}
 use Rattle.gw_head.specs.Head.{lowered_fields, length_of, reply_head_of}
-use Rattle.gw_head.specs.Checks.{first_fault, reply_fault, is_some_value, is_only_token, are_bad_lengths, has_bad_code, has_bad_coding, has_length_and_coding, has_bad_length}
+use Rattle.gw_head.specs.Checks.{first_fault, reply_fault, lengths_of, codings_of, is_some_value, is_only_token, are_bad_lengths, has_bad_code, has_bad_coding, has_length_and_coding, has_bad_length}
 use Rattle.gw_head.specs.Written.{IsPlainField}
 
 -- the field line
@@ -110,7 +110,8 @@ lowered_same (field ∷ fields) = λ i. (spelled_low true field.0 i, field.1) �
 
 -- ---- what is made of them, and what fails
 
-made : ℕ → ℕ → List (List ℕ × List ℕ) → List (List ℕ) → List (List ℕ) → ReplyHead
+-- the head of a reply by its fields in lower case, its lengths and its codings
+abbrev pub made : ℕ → ℕ → List (List ℕ × List ℕ) → List (List ℕ) → List (List ℕ) → ReplyHead
 made minor code lowered lengths codings = record {
   code = code;
   old = minor == 0;
@@ -120,14 +121,19 @@ made minor code lowered lengths codings = record {
   chunked = is_some_value codings;
 }
 
+pub head_by : (minor code : ℕ) (fields lowered : List (List ℕ × List ℕ)) (lengths codings : List (List ℕ))
+    → lowered_fields fields ≡ lowered → lengths_of fields ≡ lengths → codings_of fields ≡ codings
+    → reply_head_of minor code fields ≡ made minor code lowered lengths codings
+head_by minor code fields lowered lengths codings a b c = λ i. made minor code (a i) (b i) (c i)
+
 pub head_same : (minor code : ℕ) (fields : List (List ℕ × List ℕ))
     → reply_head_of minor code (map spelt fields) ≡ reply_head_of minor code fields
-unfolding made
 head_same minor code fields =
-    λ i. made minor code (lowered_same fields i) (values_same (codes "content-length") fields i)
-    (values_same (codes "transfer-encoding") fields i)
+    head_by minor code (map spelt fields) (lowered_fields fields) (lengths_of fields) (codings_of fields)
+    (lowered_same fields) (values_same (codes "content-length") fields) (values_same (codes "transfer-encoding") fields)
 
-failing : ℕ → ℕ → List (List ℕ) → List (List ℕ) → Option HeadError
+-- the first check that they fail
+abbrev pub failing : ℕ → ℕ → List (List ℕ) → List (List ℕ) → Option HeadError
 failing minor code lengths codings =
     first_fault
     ((has_bad_code code, Malformed)
@@ -136,8 +142,15 @@ failing minor code lengths codings =
     ∷ (are_bad_lengths lengths, BadLength)
     ∷ [])
 
+pub fault_by : (minor code : ℕ) (fields : List (List ℕ × List ℕ)) (lengths codings : List (List ℕ))
+    → lengths_of fields ≡ lengths → codings_of fields ≡ codings
+    → reply_fault minor code fields ≡ failing minor code lengths codings
+unfolding has_bad_coding has_length_and_coding has_bad_length
+fault_by minor code fields lengths codings a b = λ i. failing minor code (a i) (b i)
+
 pub fault_same : (minor code : ℕ) (fields : List (List ℕ × List ℕ))
     → reply_fault minor code (map spelt fields) ≡ reply_fault minor code fields
-unfolding failing has_bad_coding has_length_and_coding has_bad_length
 fault_same minor code fields =
-    λ i. failing minor code (values_same (codes "content-length") fields i) (values_same (codes "transfer-encoding") fields i)
+    fault_by minor code (map spelt fields) (lengths_of fields) (codings_of fields)
+    (values_same (codes "content-length") fields) (values_same (codes "transfer-encoding") fields)
+    ∙ sym (fault_by minor code fields (lengths_of fields) (codings_of fields) refl refl)

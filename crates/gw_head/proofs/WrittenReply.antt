@@ -1,6 +1,6 @@
 -- A reply's head that is written plainly is read with just its parts.
 use Rattle.std.proofs.Common.{◌≡◌, ℕ, zero, suc, ◌+◌, ◌-◌, ◌/◌, ◌%◌, ◌^◌, ◌<◌, ◌≤◌, Bool, true, false, List, [], ◌∷◌, ◌++◌, length, take, map, refl, sym, ap, ◌∙◌, arith, rules, append_assoc, append-nil, length-append}
-use Rattle.std.specs.Prelude.{All, IsTrue, not, cond, codes, decimal, Option, Some, None, ◌==◌, if◌then◌else◌, slice_index}
+use Rattle.std.specs.Prelude.{IsTrue, not, cond, codes, decimal, Some, None, ◌==◌, if◌then◌else◌, slice_index}
 use Rattle.std.specs.List.{list_all, position_or_len}
 use Rattle.std.specs.Char.{is_ascii_digit}
 use Rattle.std.specs.Str.Parse.{AllDigits, digits_value}
@@ -10,21 +10,21 @@ use Rattle.std.proofs.lemmas.Fmt.{decimal_step, decimal_digit, decimal_is_IsNume
 use Rattle.std.proofs.lemmas.List.{length-map}
 use Rattle.std.proofs.lemmas.List.Elements.{All-nil, All-cons, All-head, All-tail}
 use Rattle.std.proofs.lemmas.List.Sums.{AllPass-from_list_all}
-use Rattle.httparse.specs.Grammar.{AllPass, is_value_byte, crlf, ResponseHead as ReplyParts, print_response, ReadsResponse, status_code}
+use Rattle.httparse.specs.Grammar.{AllPass, is_value_byte, crlf, ResponseHead as ReplyParts, print_response, ReadsResponse}
 use Rattle.httparse.proofs.GrammarLemmas.{print_response-append, cons-append}
 use Rattle.gw_fields.specs.Order.{lines_of}
 use Rattle.gw_head.specs.declared.error.HeadError.{HeadError}
 use Rattle.gw_head.specs.declared.error.HeadError.TheVariants.{Malformed, TooManyFields, Version, BadLength, LengthAndCoding, Coding}
-use Rattle.gw_head.specs.Checks.{first_fault, reply_fault, reply_lines_fault, has_bad_code, has_bad_coding, has_length_and_coding, has_bad_length, has_other_reply_version, has_too_many_fields}
+use Rattle.gw_head.specs.Checks.{first_fault, reply_fault, has_bad_code, has_bad_coding, has_length_and_coding, has_bad_length, has_other_reply_version, has_too_many_fields}
 use Rattle.gw_head.specs.Fields.{fields_of}
-use Rattle.gw_head.specs.Head.{reply_head_of, reply_parts_fault, ReplyHeadOf}
-use Rattle.gw_head.specs.Lines.{begins_with_other_version, first_line, line_count, without_return}
+use Rattle.gw_head.specs.Head.{reply_head_of, ReplyHeadOf}
+use Rattle.gw_head.specs.Lines.{begins_with_other_version, line_count, without_return}
 use Rattle.gw_head.specs.Pieces.{before, is_byte}
-use Rattle.gw_head.specs.Mark.{head_end, head_limit, IsWhole}
+use Rattle.gw_head.specs.Mark.{head_limit}
 use Rattle.gw_head.specs.Written.{IsPlainReply, reply_text, version_text}
 use Rattle.gw_head.proofs.GrammarEnd.{passes_other, response_end}
 use Rattle.gw_head.proofs.LineLemmas.{reply_lines}
-use Rattle.gw_head.proofs.Plain.{written, spelt, lines_same, lines_good, fields_same, head_same, fault_same}
+use Rattle.gw_head.proofs.Plain.{written, lines_same, lines_good, fields_same, head_same, fault_same}
 
 -- ---- the code
 
@@ -45,7 +45,7 @@ three_digits code low high =
     let first : length (decimal (code / 10 / 10)) ≡ 1 = ap length (decimal_digit (code / 10 / 10) (omega arith)) in
     omega arith
 
-digits_pass : (digits : List ℕ) → AllDigits 10 digits → AllPass is_ascii_digit digits
+pub digits_pass : (digits : List ℕ) → AllDigits 10 digits → AllPass is_ascii_digit digits
 digits_pass [] all = All-nil (λ b. IsTrue (is_ascii_digit b))
 digits_pass (b ∷ digits) all =
     All-cons (λ x. IsTrue (is_ascii_digit x)) b digits (grind (arith, nat_tests)) (digits_pass digits all.1)
