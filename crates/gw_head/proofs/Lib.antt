@@ -9,6 +9,7 @@ mod LineLemmas
 mod MarkLemmas
 mod PieceLemmas
 mod Plain
+mod ReadPlain
 mod ReaderLemmas
 mod Rows
 mod WholeLemmas

@@ -2,9 +2,10 @@
 use Rattle.std.specs.Prelude.{◌≡◌, ℕ, ◌≤◌, List, [], ◌++◌, length, Some}
 use Rattle.httparse.specs.Grammar.{RequestHead as RequestParts, print_request, ReadsRequest, ResponseHead as ReplyParts, print_response, ReadsResponse}
 use Rattle.gw_head.specs.declared.error.HeadError.{HeadError}
+use Rattle.gw_head.specs.declared.reply.ReplyHead.{ReplyHead}
 use Rattle.gw_head.specs.Head.{RequestHeadOf, BadRequestHead, reply_head_of, ReplyHeadOf, BadReplyHead}
 use Rattle.gw_head.specs.Mark.{head_end, head_limit}
-use Rattle.gw_head.specs.Written.{IsPlainReply, reply_text}
+use Rattle.gw_head.specs.Written.{IsPlainReply, IsWritableReply, reply_text}
 
 -- a request's head of the grammar, whatever follows, ends with the end mark
 abbrev pub RequestEndsAtMark : Type 0
@@ -54,3 +55,7 @@ WrittenReplyIsRead =
     (minor code : ℕ) (phrase : List ℕ) (fields : List (List ℕ × List ℕ)) → IsPlainReply minor code phrase fields
     → length (reply_text minor code phrase fields) ≤ head_limit
     → ReplyHeadOf (reply_text minor code phrase fields) (reply_head_of minor code fields)
+
+-- what is read can be written again
+abbrev pub ReadReplyIsWritable : Type 0
+ReadReplyIsWritable = (bytes : List ℕ) (head : ReplyHead) → ReplyHeadOf bytes head → IsWritableReply head

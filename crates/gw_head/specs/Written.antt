@@ -1,11 +1,12 @@
 -- Heads as texts that are written plainly: nothing before the start line, each line ended by CR LF, and one space before
 -- each value.
-use Rattle.std.specs.Prelude.{◌≡◌, ℕ, ◌+◌, ◌≤◌, List, [], ◌∷◌, ◌++◌, length, reverse, codes, decimal, All, None}
+use Rattle.std.specs.Prelude.{◌≡◌, ℕ, ◌+◌, ◌^◌, ◌<◌, ◌≤◌, false, List, [], ◌∷◌, ◌++◌, length, reverse, codes, decimal, All, Some, None}
 use Rattle.http_header.specs.FieldName.{IsHeaderName}
 use Rattle.http_header.specs.FieldValue.{IsFieldValue}
 use Rattle.gw_fields.specs.Lists.{skip_blanks}
 use Rattle.gw_fields.specs.Order.{lines_of}
-use Rattle.gw_head.specs.Checks.{reply_fault}
+use Rattle.gw_head.specs.declared.reply.ReplyHead.{ReplyHead}
+use Rattle.gw_head.specs.Checks.{has_bad_code, reply_fault}
 
 -- no blank stands at either end
 pub record IsBare (value : List ℕ) : Type 0 where
@@ -36,3 +37,9 @@ pub record IsPlainReply (minor code : ℕ) (phrase : List ℕ) (fields : List (L
   pub plain : All IsPlainField fields
   pub few : length fields ≤ 128
   pub passes : reply_fault minor code fields ≡ None
+
+-- what a reply's head says can be written again: its fields, its code and its length
+pub record IsWritableReply (head : ReplyHead) : Type 0 where
+  pub plain : All IsPlainField head.fields
+  pub coded : has_bad_code head.code ≡ false
+  pub small : (n : ℕ) → head.length ≡ Some n → n < 2 ^ 63

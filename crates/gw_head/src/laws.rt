@@ -1,5 +1,5 @@
 //! Laws of the definitions, each the contract of a function that does nothing.
-ghost use Rattle.gw_head.specs.Laws.{RequestEndsAtMark, ReplyEndsAtMark, MarkStays, OneRequestAnswer, OneReplyAnswer, NoRequestBeginsAnother, NoReplyBeginsAnother, WrittenReplyIsRead};
+ghost use Rattle.gw_head.specs.Laws.{RequestEndsAtMark, ReplyEndsAtMark, MarkStays, OneRequestAnswer, OneReplyAnswer, NoRequestBeginsAnother, NoReplyBeginsAnother, WrittenReplyIsRead, ReadReplyIsWritable};
 
 /// A head that the grammar of `httparse` reads at the front of some bytes ends with the end mark of those bytes.
 pub fn grammar_ends_at_mark()
@@ -24,4 +24,10 @@ pub fn no_head_begins_another()
 /// before each value), whose parts fail no check, is read with just these parts.
 pub fn written_heads_are_read()
     ensures { WrittenReplyIsRead }
+{}
+
+/// What is read of a reply's head can be written again: its fields stand in lines as they are, its code has three
+/// digits, and its length is less than 2^63.
+pub fn read_heads_are_writable()
+    ensures { ReadReplyIsWritable }
 {}

@@ -1,7 +1,9 @@
 mod DateLemmas
 mod DateText
+mod FieldLemmas
 mod LineLemmas
 mod OwnLemmas
+mod PassedOn
 mod ReplyLemmas
 mod Rows
 mod SortLemmas

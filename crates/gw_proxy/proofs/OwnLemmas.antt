@@ -7,9 +7,7 @@ use Rattle.std.proofs.lemmas.Fmt.{length-decimal-le_succ}
 use Rattle.std.proofs.lemmas.List.Elements.{All-nil, All-cons, All-head, All-tail, All-append}
 use Rattle.std.proofs.lemmas.List.Sums.{AllPass-from_list_all}
 use Rattle.http_header.specs.Token.{IsToken, is_value_byte}
-use Rattle.http_header.specs.FieldName.{is_header_name}
 use Rattle.http_header.specs.FieldValue.{IsFieldValue}
-use Rattle.http_header.proofs.TokenLemmas.{IsHeaderName-from_test}
 use Rattle.gw_head.specs.declared.framing.Framing.TheVariants.{None as NoBody, Length}
 use Rattle.gw_head.specs.Checks.{has_bad_code}
 use Rattle.gw_head.specs.Mark.{head_limit}
@@ -21,19 +19,9 @@ use Rattle.gw_proxy.specs.Lines.{field_section, length_fields}
 use Rattle.gw_proxy.specs.OutReply.{close_fields, code_line, is_own, is_head, method_list, own_body, own_code, own_codes, own_fields, own_line, phrase_of, sent_body, status_line_of, OwnReply}
 use Rattle.gw_proxy.specs.Read.{CanBeSent, own_framing, ReadsAsReply, ReadsOwn}
 use Rattle.gw_proxy.proofs.DateText.{date_fits}
+use Rattle.gw_proxy.proofs.FieldLemmas.{closes_plain, plain}
 use Rattle.gw_proxy.proofs.ReplyLemmas.{IsSent, Says, said_framing, sent_reply}
 use Rattle.gw_proxy.proofs.ValueLemmas.{IsFit, IsMark, all_value, bare_by, is_phrase, marks_fit, number_fits, token_marks, visible_marks}
-
--- ---- the fields
-
-plain : (name value : List ℕ) → is_header_name name ≡ true → IsFit value → IsPlainField (name, value)
-plain name value is fit = record { name = IsHeaderName-from_test name is; value = fit.good; bare = fit.bare }
-
-closes_plain : (close : Bool) → All IsPlainField (close_fields close)
-closes_plain true =
-    All-cons IsPlainField (codes "connection", codes "close") []
-    (plain (codes "connection") (codes "close") refl (marks_fit (codes "close") (visible_marks (codes "close") refl))) (All-nil IsPlainField)
-closes_plain false = All-nil IsPlainField
 
 -- ---- methods
 

@@ -10,7 +10,8 @@ use Rattle.gw_head.specs.Mark.{head_limit}
 use Rattle.gw_body.specs.Framing.{reply_framing_of}
 use Rattle.gw_proxy.specs.declared.own.Own.{Own}
 use Rattle.gw_proxy.specs.declared.own.Own.TheVariants.{Options, Stopped, Moved, NotAllowed, Plain}
-use Rattle.gw_proxy.specs.OutReply.{is_head, is_own, own_code, own_body, sent_body, OwnReply}
+use Rattle.gw_proxy.specs.Date.{IsDateAt}
+use Rattle.gw_proxy.specs.OutReply.{is_head, is_own, own_code, own_body, out_reply_of, reply_fields, sent_body, sent_framing_of, OwnReply}
 
 -- what a reply of the gateway's own was given can stand in a field line: a location is visible ASCII, a method a token
 abbrev pub CanBeSent : Own → Type 0
@@ -45,3 +46,14 @@ abbrev pub OwnRepliesAreRead : Type 0
 OwnRepliesAreRead =
     (own : Own) (method : List ℕ) (old close : Bool) (moment : ℕ) (text : List ℕ) → IsTrue (is_own own) → CanBeSent own
     → OwnReply own method old close moment text → length text ≤ head_limit → ReadsOwn own method old close text
+
+-- a backend's reply that was read, as it goes to the client, of at most 128 fields and 65,536 bytes: it is read with the
+-- code and the body that it came with
+abbrev pub PassedRepliesAreRead : Type 0
+PassedRepliesAreRead =
+    (bytes : List ℕ) (reply : ReplyHead) (method : List ℕ) (old close : Bool) (moment : ℕ) (date : List ℕ)
+    → ReplyHeadOf bytes reply → IsDateAt moment date
+    → length (reply_fields reply (reply_framing_of reply method) method old close date) ≤ 128
+    → length (out_reply_of reply (reply_framing_of reply method) method old close date) ≤ head_limit
+    → ReadsAsReply (out_reply_of reply (reply_framing_of reply method) method old close date) reply.code old close method
+    (sent_framing_of (reply_framing_of reply method) old)

@@ -1,6 +1,6 @@
 //! Laws of what is sent. Each is a function with an empty body, whose `ensures` is the law.
 ghost use Rattle.gw_proxy.specs.Laws.{OneDate};
-ghost use Rattle.gw_proxy.specs.Read.{OwnRepliesAreRead};
+ghost use Rattle.gw_proxy.specs.Read.{OwnRepliesAreRead, PassedRepliesAreRead};
 
 /// A moment has one date, so a reply of a moment has one text.
 pub fn one_date_at_a_moment()
@@ -12,4 +12,10 @@ pub fn one_date_at_a_moment()
 /// tokens, and the text has at most 65,536 bytes.
 pub fn own_replies_are_read()
     ensures { OwnRepliesAreRead }
+{}
+
+/// The head of a backend's reply that goes on to a client is read there with the code that it came with, says whether
+/// the link closes, and announces the body as it is sent on, where it has at most 65,536 bytes and 128 fields.
+pub fn passed_replies_are_read()
+    ensures { PassedRepliesAreRead }
 {}
