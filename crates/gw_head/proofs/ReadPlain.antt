@@ -107,6 +107,7 @@ small_by value values good =
     or_left : (a b : Bool) → (a || b) ≡ false → a ≡ false
     or_left false b e = refl
     or_left true b e = e
+
     not_true : (a : Bool) → not a ≡ false → a ≡ true
     not_true true e = refl
     not_true false e = absurd (cc)

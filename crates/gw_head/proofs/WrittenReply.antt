@@ -76,6 +76,7 @@ keeps_front front b rest = kept (slice_index line (length line - 1) == 13) refl
   where
     line : List ℕ
     line = front ++ b ∷ rest
+
     kept : (r : Bool) → (slice_index line (length line - 1) == 13) ≡ r → KeepsFront front line
     kept true is = record {
       more = take (length rest) (b ∷ rest);
@@ -200,6 +201,6 @@ pub reply_written : (minor code : ℕ) (phrase : List ℕ) (fields : List (List 
     → ReplyHeadOf (reply_text minor code phrase fields) (reply_head_of minor code fields)
 reply_written minor code phrase fields plain short =
     let others = (has_bad_coding minor fields, Coding) ∷ (has_length_and_coding fields, LengthAndCoding)
-        ∷ (has_bad_length fields, BadLength) ∷ [] in
+    ∷ (has_bad_length fields, BadLength) ∷ [] in
     let range = code_range code (first_passes (has_bad_code code) Malformed others plain.passes) in
     head_from minor code phrase fields plain (is_code code range.0 range.1) short

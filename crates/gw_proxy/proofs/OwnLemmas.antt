@@ -161,8 +161,12 @@ line_short : (code : ℕ) → code < 1000 → length (code_line code) < 2 ^ 63
 line_short code small =
     let number = length-decimal-le_succ code (omega arith) in
     let phrase = (is_phrase code).short in
-    omega (arith, length-append ((decimal code ++ codes " ") ++ phrase_of code) (codes "\n"),
-    length-append (decimal code ++ codes " ") (phrase_of code), length-append (decimal code) (codes " "))
+    omega (
+      arith,
+      length-append ((decimal code ++ codes " ") ++ phrase_of code) (codes "\n"),
+      length-append (decimal code ++ codes " ") (phrase_of code),
+      length-append (decimal code) (codes " "),
+    )
 
 body_short : (own : Own) → IsPlainCode (own_code own) → length (own_body own) < 2 ^ 63
 body_short Options is = omega arith

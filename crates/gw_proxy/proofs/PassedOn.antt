@@ -41,7 +41,6 @@ is_kept reply =
           (reply_kept reply) (filter_passes p (without_hops reply.fields));
     }
 
-
 -- ---- what is added
 
 one_other : (name other value : List ℕ) → str_eq_ignore_ascii_case other name ≡ false → All (IsOther name) ((other, value) ∷ [])

@@ -125,7 +125,7 @@ sent_reply old code fields said chunks close method is short =
       passes = sent_passes old code fields said chunks close is;
     } in
     let limit : length (reply_text (minor_of old) code (phrase_of code) (sorted fields)) ≤ head_limit =
-        subst (λ l. length l ≤ head_limit) text short in
+    subst (λ l. length l ≤ head_limit) text short in
     record {
       head = reply_head_of (minor_of old) code (sorted fields);
       reads = subst (λ l. ReplyHeadOf l (reply_head_of (minor_of old) code (sorted fields))) (sym text)
