@@ -14,5 +14,6 @@ mod ReaderLemmas
 mod Rows
 mod WholeLemmas
 mod WrittenReply
+mod WrittenRequest
 pub mod FeedLemmas
 pub mod Facts

@@ -68,6 +68,11 @@ spelled_some starts (b ∷ name) some = omega arith
 spelled_name : (name : List ℕ) → IsName name → IsToken (spelled name)
 spelled_name name is = (spelled_some true name is.0, spelled_token true name is.1)
 
+-- a token is one in either crate's words
+pub token_good : (bytes : List ℕ) → IsName bytes → IsToken bytes
+token_good bytes is =
+    (is.0, All-weaker (λ b. IsTrue (is_name_byte b)) (λ b. IsTrue (is_token_byte b)) same_byte bytes is.1)
+
 -- ---- the lines
 
 line_same : (field : List ℕ × List ℕ) → print_field (written field) ≡ line_of field

@@ -95,7 +95,7 @@ spoken_front front b rest spoken =
 one_past : (b n : ℕ) (text : List ℕ) → take (1 + n) (b ∷ text) ≡ b ∷ take n text
 one_past b n text = let next : 1 + n ≡ suc n = omega arith in ap (λ m. take m (b ∷ text)) next
 
-before_other : (b : ℕ) (text : List ℕ) → (b == 10) ≡ false → before 10 (b ∷ text) ≡ b ∷ before 10 text
+pub before_other : (b : ℕ) (text : List ℕ) → (b == 10) ≡ false → before 10 (b ∷ text) ≡ b ∷ before 10 text
 before_other b text other =
     ap (λ (v : Bool). take (cond (not v) (1 + position_or_len (is_byte 10) text) 0) (b ∷ text)) other
     ∙ one_past b (position_or_len (is_byte 10) text) text
@@ -131,7 +131,7 @@ spoken_version (suc zero) code phrase fields spoken =
     spoken_line (codes "HTTP/1.1") (behind_version code phrase fields) refl (λ more. refl)
 spoken_version (suc (suc minor)) code phrase fields spoken = absurd (omega arith)
 
-few_fields : (bytes : List ℕ) (n : ℕ) → line_count bytes ≡ n → n ≤ 128 → has_too_many_fields bytes ≡ false
+pub few_fields : (bytes : List ℕ) (n : ℕ) → line_count bytes ≡ n → n ≤ 128 → has_too_many_fields bytes ≡ false
 unfolding has_too_many_fields
 few_fields bytes n is few = grind (arith, nat_tests)
 

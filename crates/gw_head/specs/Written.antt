@@ -1,12 +1,14 @@
 -- Heads as texts that are written plainly: nothing before the start line, each line ended by CR LF, and one space before
 -- each value.
-use Rattle.std.specs.Prelude.{◌≡◌, ℕ, ◌+◌, ◌^◌, ◌<◌, ◌≤◌, false, List, [], ◌∷◌, ◌++◌, length, reverse, codes, decimal, All, Some, None}
+use Rattle.std.specs.Prelude.{◌≡◌, ℕ, ◌+◌, ◌^◌, ◌<◌, ◌≤◌, false, List, [], ◌∷◌, ◌++◌, length, reverse, codes, decimal, All, IsUtf8, Some, None}
+use Rattle.httparse.specs.Grammar.{AllPass, is_uri_byte}
+use Rattle.http_header.specs.Token.{IsToken}
 use Rattle.http_header.specs.FieldName.{IsHeaderName}
 use Rattle.http_header.specs.FieldValue.{IsFieldValue}
 use Rattle.gw_fields.specs.Lists.{skip_blanks}
 use Rattle.gw_fields.specs.Order.{lines_of}
 use Rattle.gw_head.specs.declared.reply.ReplyHead.{ReplyHead}
-use Rattle.gw_head.specs.Checks.{has_bad_code, reply_fault}
+use Rattle.gw_head.specs.Checks.{has_bad_code, reply_fault, request_fault}
 
 -- no blank stands at either end
 pub record IsBare (value : List ℕ) : Type 0 where
@@ -37,6 +39,20 @@ pub record IsPlainReply (minor code : ℕ) (phrase : List ℕ) (fields : List (L
   pub plain : All IsPlainField fields
   pub few : length fields ≤ 128
   pub passes : reply_fault minor code fields ≡ None
+
+-- a request's head: the request line (RFC 9112, section 3), the field lines and the empty line
+abbrev pub request_text : List ℕ → List ℕ → List (List ℕ × List ℕ) → List ℕ
+request_text method target fields =
+    (((method ++ codes " ") ++ target) ++ codes " HTTP/1.1\r\n") ++ (lines_of fields ++ codes "\r\n")
+
+-- the same of a request's: a method is a token, and a target has no blank and no control byte
+pub record IsPlainRequest (method target : List ℕ) (fields : List (List ℕ × List ℕ)) : Type 0 where
+  pub verb : IsToken method
+  pub aim : (0 < length target) × AllPass is_uri_byte target
+  pub words : IsUtf8 target
+  pub plain : All IsPlainField fields
+  pub few : length fields ≤ 128
+  pub passes : request_fault method target 1 fields ≡ None
 
 -- what a reply's head says can be written again: its fields, its code and its length
 pub record IsWritableReply (head : ReplyHead) : Type 0 where
