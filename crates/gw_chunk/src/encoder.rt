@@ -77,6 +77,7 @@ fn push_size(size: usize, out: &mut Vec<u8>)
     out.push_reserved(digit_byte((size % 16) as u8));
 }
 
+/// The lower-case hexadecimal digit of a number below 16.
 pub(crate) fn digit_byte(digit: u8) -> u8
     requires { digit < 16 }
     ensures { result ≡ digit_char digit }

@@ -8,7 +8,12 @@ mod HeadLemmas
 mod LineLemmas
 mod MarkLemmas
 mod PieceLemmas
+mod Plain
+mod ReadPlain
 mod ReaderLemmas
 mod Rows
 mod WholeLemmas
+mod WrittenReply
+mod WrittenRequest
 pub mod FeedLemmas
+pub mod Facts

@@ -72,7 +72,7 @@ feeds_version minor text n feeds =
 
 -- ---- the empty lines before the start line
 
-skip_stop : (text : List ℕ) → Stops is_newline text → skip_newlines text ≡ text
+pub skip_stop : (text : List ℕ) → Stops is_newline text → skip_newlines text ≡ text
 skip_stop [] stops = absurd stops
 skip_stop (b ∷ text) stops = ap (λ (v : Bool). if v then skip_newlines text else b ∷ text) stops
 

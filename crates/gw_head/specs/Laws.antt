@@ -1,9 +1,11 @@
 -- Laws of the end mark and of heads.
-use Rattle.std.specs.Prelude.{◌≡◌, ℕ, List, [], ◌++◌, length, Some}
+use Rattle.std.specs.Prelude.{◌≡◌, ℕ, ◌≤◌, List, [], ◌++◌, length, Some}
 use Rattle.httparse.specs.Grammar.{RequestHead as RequestParts, print_request, ReadsRequest, ResponseHead as ReplyParts, print_response, ReadsResponse}
 use Rattle.gw_head.specs.declared.error.HeadError.{HeadError}
-use Rattle.gw_head.specs.Head.{RequestHeadOf, BadRequestHead, ReplyHeadOf, BadReplyHead}
-use Rattle.gw_head.specs.Mark.{head_end}
+use Rattle.gw_head.specs.declared.reply.ReplyHead.{ReplyHead}
+use Rattle.gw_head.specs.Head.{request_head_of, RequestHeadOf, BadRequestHead, reply_head_of, ReplyHeadOf, BadReplyHead}
+use Rattle.gw_head.specs.Mark.{head_end, head_limit}
+use Rattle.gw_head.specs.Written.{IsPlainReply, IsPlainRequest, IsWritableReply, reply_text, request_text}
 
 -- a request's head of the grammar, whatever follows, ends with the end mark
 abbrev pub RequestEndsAtMark : Type 0
@@ -46,3 +48,21 @@ NoRequestBeginsAnother = IsPrefixFree RequestHeadOf
 
 abbrev pub NoReplyBeginsAnother : Type 0
 NoReplyBeginsAnother = IsPrefixFree ReplyHeadOf
+
+-- a reply's head that is written plainly, and no longer than a head may be, is read with just its parts
+abbrev pub WrittenReplyIsRead : Type 0
+WrittenReplyIsRead =
+    (minor code : ℕ) (phrase : List ℕ) (fields : List (List ℕ × List ℕ)) → IsPlainReply minor code phrase fields
+    → length (reply_text minor code phrase fields) ≤ head_limit
+    → ReplyHeadOf (reply_text minor code phrase fields) (reply_head_of minor code fields)
+
+-- the same of a request's head
+abbrev pub WrittenRequestIsRead : Type 0
+WrittenRequestIsRead =
+    (method target : List ℕ) (fields : List (List ℕ × List ℕ)) → IsPlainRequest method target fields
+    → length (request_text method target fields) ≤ head_limit
+    → RequestHeadOf (request_text method target fields) (request_head_of method target 1 fields)
+
+-- what is read can be written again
+abbrev pub ReadReplyIsWritable : Type 0
+ReadReplyIsWritable = (bytes : List ℕ) (head : ReplyHead) → ReplyHeadOf bytes head → IsWritableReply head

@@ -12,3 +12,4 @@ pub mod Scan
 pub mod Stage
 pub mod Take
 pub mod Target
+pub mod Written

@@ -1,5 +1,5 @@
 //! Laws of the definitions, each the contract of a function that does nothing.
-ghost use Rattle.gw_head.specs.Laws.{RequestEndsAtMark, ReplyEndsAtMark, MarkStays, OneRequestAnswer, OneReplyAnswer, NoRequestBeginsAnother, NoReplyBeginsAnother};
+ghost use Rattle.gw_head.specs.Laws.{RequestEndsAtMark, ReplyEndsAtMark, MarkStays, OneRequestAnswer, OneReplyAnswer, NoRequestBeginsAnother, NoReplyBeginsAnother, WrittenReplyIsRead, WrittenRequestIsRead, ReadReplyIsWritable};
 
 /// A head that the grammar of `httparse` reads at the front of some bytes ends with the end mark of those bytes.
 pub fn grammar_ends_at_mark()
@@ -18,4 +18,18 @@ pub fn no_head_begins_another()
     ensures mark { MarkStays }
     ensures requests { NoRequestBeginsAnother }
     ensures replies { NoReplyBeginsAnother }
+{}
+
+/// A head of at most 65,536 bytes and 128 fields that is written plainly (each line ended by CR LF, one space before each
+/// value), whose parts fail no check, is read with just these parts: a reply's in either version, a request's in
+/// HTTP/1.1.
+pub fn written_heads_are_read()
+    ensures replies { WrittenReplyIsRead }
+    ensures requests { WrittenRequestIsRead }
+{}
+
+/// What is read of a reply's head can be written again: its fields stand in lines as they are, its code has three
+/// digits, and its length is less than 2^63.
+pub fn read_heads_are_writable()
+    ensures { ReadReplyIsWritable }
 {}

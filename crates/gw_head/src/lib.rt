@@ -23,7 +23,10 @@ mod target;
 pub use error::{HeadError, NoMemory};
 pub use framing::Framing;
 pub use host::strip_port;
-pub use laws::{grammar_ends_at_mark, heads_have_one_answer, no_head_begins_another};
+pub use laws::{
+    grammar_ends_at_mark, heads_have_one_answer, no_head_begins_another, read_heads_are_writable,
+    written_heads_are_read,
+};
 pub use reader::{Fed, HeadReader, Step};
 pub use reply::ReplyHead;
 pub use request::RequestHead;

@@ -1,3 +1,10 @@
 mod DateLemmas
+mod DateText
+mod FieldLemmas
 mod LineLemmas
+mod OwnLemmas
+mod PassedOn
+mod ReplyLemmas
 mod Rows
+mod SortLemmas
+mod ValueLemmas

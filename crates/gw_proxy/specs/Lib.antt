@@ -3,4 +3,5 @@ pub mod Laws
 pub mod Lines
 pub mod OutReply
 pub mod OutRequest
+pub mod Read
 pub mod Texts

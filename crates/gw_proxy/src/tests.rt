@@ -1,5 +1,5 @@
 //! What is sent, byte for byte.
-ghost use Rattle.std.specs.Prelude.{IfSome, IsTrue};
+ghost use Rattle.std.specs.Prelude.{◌<◌, IfSome, IsTrue};
 ghost use Rattle.gw_proxy.specs.OutReply.{is_own};
 
 use crate::{OutHead, Own, out_reply_head, out_request, own_reply, sent_framing};
@@ -8,7 +8,6 @@ use gw_head::{Framing, HeadReader, Step};
 use gw_wire::{Addr, Bytes, PeerText};
 use http::Method;
 use std::alloc::{AllocError, Global};
-use std::str;
 use std::test::Fail;
 
 const NOW: u64 = 784_111_777_000;
@@ -21,10 +20,6 @@ const BACKEND: Addr = Addr {
 
 fn bytes_of(alloc: Global, text: &str) -> Result<Bytes, AllocError> {
     Ok(Bytes::new(text.as_bytes().to_vec(alloc)?))
-}
-
-fn words(text: &[u8]) -> &str {
-    str::from_utf8(text).unwrap_or("not text")
 }
 
 // The request with this head as it goes to the backend, for a client at 10.0.0.7; `None` where the head is refused.
@@ -85,68 +80,96 @@ const STAR: [&str; 2] = [
     "OPTIONS * HTTP/1.1\r\nHost: a\r\nX-Forwarded-For: 10.0.0.7\r\n\r\n",
 ];
 
+const REQUESTS: [[&str; 2]; 9] = [
+    ONE_GET, HOP_BY_HOP, CHUNKED, OLD_CLIENT, EMPTY_HOST, CONTINUE, NAMED, FORWARDED, STAR,
+];
+
+// Whether just this text is sent for the request.
+fn is_sent_as(
+    alloc: Global,
+    head: &str,
+    base: &str,
+    addr: &Addr,
+    text: &str,
+) -> Result<bool, Fail> {
+    match sent(alloc, head, base, addr)? {
+        Some(out) => Ok(out.bytes.as_slice() == text.as_bytes()),
+        None => Ok(false),
+    }
+}
+
 #[test]
 fn requests_to_a_backend(rt: HostRuntime) -> Result<(), Fail> {
-    let table = [
-        ONE_GET, HOP_BY_HOP, CHUNKED, OLD_CLIENT, EMPTY_HOST, CONTINUE, NAMED, FORWARDED, STAR,
-    ];
-    for [head, expected] in table {
-        match sent(rt.alloc(), head, "", &BACKEND)? {
-            Some(out) => assert_eq!(rt; words(out.bytes.as_slice()), expected),
-            None => panic!(rt; "refused: {head}"),
-        }
+    for [head, text] in &REQUESTS {
+        assert!(rt; is_sent_as(rt.alloc(), head, "", &BACKEND, text)?, "{head}");
     }
     Ok(())
+}
+
+const LOCAL: Addr = Addr {
+    local: true,
+    ip: [127, 0, 0, 1],
+    port: 80,
+};
+
+/// A base, a target, and the target that is sent.
+type BaseRow = (&'static str, &'static str, &'static str);
+
+const BASES: [BaseRow; 8] = [
+    ("/api/", "/x", "/api/x"),
+    ("/api", "/", "/api/"),
+    ("", "/x", "/x"),
+    ("/api", "/x?y=/z", "/api/x?y=/z"),
+    ("/api/", "/", "/api/"),
+    ("/", "/x", "/x"),
+    ("//", "//x", "///x"),
+    ("/a", "/?", "/a/?"),
+];
+
+fn is_joined(alloc: Global, row: &BaseRow) -> Result<bool, Fail> {
+    let (base, target, expected) = *row;
+    let head = format!(in alloc; "GET {target} HTTP/1.0\r\n\r\n")?;
+    let text = format!(in alloc;
+        "GET {expected} HTTP/1.1\r\nHost: localhost:80\r\nX-Forwarded-For: 10.0.0.7\r\n\r\n"
+    )?;
+    is_sent_as(alloc, &head, base, &LOCAL, &text)
 }
 
 #[test]
 fn joining_a_base(rt: HostRuntime) -> Result<(), Fail> {
-    let local = Addr {
-        local: true,
-        ip: [127, 0, 0, 1],
-        port: 80,
-    };
-    let table = [
-        ("/api/", "/x", "/api/x"),
-        ("/api", "/", "/api/"),
-        ("", "/x", "/x"),
-        ("/api", "/x?y=/z", "/api/x?y=/z"),
-        ("/api/", "/", "/api/"),
-        ("/", "/x", "/x"),
-        ("//", "//x", "///x"),
-        ("/a", "/?", "/a/?"),
-    ];
-    for (base, target, expected) in table {
-        let head = format!(in rt.alloc(); "GET {target} HTTP/1.0\r\n\r\n")?;
-        let line = format!(in rt.alloc();
-            "GET {expected} HTTP/1.1\r\nHost: localhost:80\r\nX-Forwarded-For: 10.0.0.7\r\n\r\n"
-        )?;
-        match sent(rt.alloc(), &head, base, &local)? {
-            Some(out) => assert_eq!(rt; words(out.bytes.as_slice()), line.as_str()),
-            None => panic!(rt; "refused: {target}"),
-        }
+    for row in &BASES {
+        assert!(rt; is_joined(rt.alloc(), row)?, "{}", row.1);
     }
     Ok(())
 }
 
+/// Field lines, and whether they tell a request that is sent again.
+type KeyRow = (&'static str, bool);
+
+const KEYS: [KeyRow; 5] = [
+    ("Idempotency-Key: 1\r\n", true),
+    ("x-idempotency-key:\r\n", true),
+    ("Idempotency-Keys: 1\r\n", false),
+    (
+        "Idempotency-Key: 1\r\nConnection: Idempotency-Key\r\n",
+        false,
+    ),
+    ("", false),
+];
+
+fn has_key_as(alloc: Global, row: &KeyRow) -> Result<bool, Fail> {
+    let (lines, expected) = *row;
+    let head = format!(in alloc; "POST / HTTP/1.1\r\nHost: a\r\n{lines}\r\n")?;
+    match sent(alloc, &head, "", &BACKEND)? {
+        Some(out) => Ok(out.has_key == expected && out.method.as_str() == "POST"),
+        None => Ok(false),
+    }
+}
+
 #[test]
 fn keys_that_are_sent(rt: HostRuntime) -> Result<(), Fail> {
-    let table = [
-        ("Idempotency-Key: 1\r\n", true),
-        ("x-idempotency-key:\r\n", true),
-        ("Idempotency-Keys: 1\r\n", false),
-        (
-            "Idempotency-Key: 1\r\nConnection: Idempotency-Key\r\n",
-            false,
-        ),
-        ("", false),
-    ];
-    for (lines, expected) in table {
-        let head = format!(in rt.alloc(); "POST / HTTP/1.1\r\nHost: a\r\n{lines}\r\n")?;
-        match sent(rt.alloc(), &head, "", &BACKEND)? {
-            Some(out) => assert_eq!(rt; (out.has_key, out.method.as_str()), (expected, "POST")),
-            None => panic!(rt; "refused: {lines}"),
-        }
+    for row in &KEYS {
+        assert!(rt; has_key_as(rt.alloc(), row)?, "{}", row.0);
     }
     Ok(())
 }
@@ -171,65 +194,74 @@ fn answered(alloc: Global, head: &str, client: Client) -> Result<Option<Vec<u8>>
     Ok(Some(out_reply_head(alloc, &reply, framing, &method, old, close, NOW)?))
 }
 
+/// A backend's head, the client, and the head that it gets.
+type ReplyRow = (&'static str, Client, &'static str);
+
+const REPLIES: [ReplyRow; 10] = [
+    (
+        "HTTP/1.1 200 OK\r\nContent-Type: text/plain\r\nContent-Length: 3\r\n\r\n",
+        NEW,
+        "HTTP/1.1 200 OK\r\nContent-Length: 3\r\nContent-Type: text/plain\r\nDate: Sun, 06 Nov 1994 08:49:37 GMT\r\n\r\n",
+    ),
+    (
+        "HTTP/1.1 200 OK\r\nTransfer-Encoding: chunked\r\n\r\n",
+        OLD,
+        "HTTP/1.0 200 OK\r\nConnection: close\r\nDate: Sun, 06 Nov 1994 08:49:37 GMT\r\n\r\n",
+    ),
+    (
+        "HTTP/1.1 200 OK\r\nTransfer-Encoding: chunked\r\n\r\n",
+        NEW,
+        "HTTP/1.1 200 OK\r\nDate: Sun, 06 Nov 1994 08:49:37 GMT\r\nTransfer-Encoding: chunked\r\n\r\n",
+    ),
+    (
+        "HTTP/1.0 299 Own\r\n\r\n",
+        NEW,
+        "HTTP/1.1 299 \r\nDate: Sun, 06 Nov 1994 08:49:37 GMT\r\nTransfer-Encoding: chunked\r\n\r\n",
+    ),
+    (
+        "HTTP/1.0 404 No\r\nServer: b\r\n\r\n",
+        OLD,
+        "HTTP/1.0 404 Not Found\r\nConnection: close\r\nDate: Sun, 06 Nov 1994 08:49:37 GMT\r\nServer: b\r\n\r\n",
+    ),
+    (
+        "HTTP/1.1 200 OK\r\nContent-Length: 5\r\n\r\n",
+        OLD,
+        "HTTP/1.0 200 OK\r\nConnection: close\r\nContent-Length: 5\r\nDate: Sun, 06 Nov 1994 08:49:37 GMT\r\n\r\n",
+    ),
+    (
+        "HTTP/1.1 204 No Content\r\nContent-Length: 0\r\n\r\n",
+        NEW,
+        "HTTP/1.1 204 No Content\r\nDate: Sun, 06 Nov 1994 08:49:37 GMT\r\n\r\n",
+    ),
+    (
+        "HTTP/1.1 304 Not Modified\r\nContent-Length: 9\r\nETag: x\r\nDate: then\r\n\r\n",
+        ("GET", false, true),
+        "HTTP/1.1 304 Not Modified\r\nConnection: close\r\nContent-Length: 9\r\nDate: then\r\nEtag: x\r\n\r\n",
+    ),
+    (
+        "HTTP/1.1 200 OK\r\nContent-Length: 007\r\nConnection: date, x-a\r\nX-A: 1\r\nDate: then\r\nSet-Cookie: b\r\nSet-Cookie: a\r\n\r\n",
+        ("HEAD", false, false),
+        "HTTP/1.1 200 OK\r\nContent-Length: 7\r\nDate: Sun, 06 Nov 1994 08:49:37 GMT\r\nSet-Cookie: b\r\nSet-Cookie: a\r\n\r\n",
+    ),
+    (
+        "HTTP/1.1 200 OK\r\nTransfer-Encoding: chunked\r\n\r\n",
+        ("HEAD", false, false),
+        "HTTP/1.1 200 OK\r\nDate: Sun, 06 Nov 1994 08:49:37 GMT\r\n\r\n",
+    ),
+];
+
+fn is_answered_as(alloc: Global, row: &ReplyRow) -> Result<bool, Fail> {
+    let (head, client, text) = *row;
+    match answered(alloc, head, client)? {
+        Some(out) => Ok(out.as_slice() == text.as_bytes()),
+        None => Ok(false),
+    }
+}
+
 #[test]
 fn replies_to_a_client(rt: HostRuntime) -> Result<(), Fail> {
-    let table = [
-        (
-            "HTTP/1.1 200 OK\r\nContent-Type: text/plain\r\nContent-Length: 3\r\n\r\n",
-            NEW,
-            "HTTP/1.1 200 OK\r\nContent-Length: 3\r\nContent-Type: text/plain\r\nDate: Sun, 06 Nov 1994 08:49:37 GMT\r\n\r\n",
-        ),
-        (
-            "HTTP/1.1 200 OK\r\nTransfer-Encoding: chunked\r\n\r\n",
-            OLD,
-            "HTTP/1.0 200 OK\r\nConnection: close\r\nDate: Sun, 06 Nov 1994 08:49:37 GMT\r\n\r\n",
-        ),
-        (
-            "HTTP/1.1 200 OK\r\nTransfer-Encoding: chunked\r\n\r\n",
-            NEW,
-            "HTTP/1.1 200 OK\r\nDate: Sun, 06 Nov 1994 08:49:37 GMT\r\nTransfer-Encoding: chunked\r\n\r\n",
-        ),
-        (
-            "HTTP/1.0 299 Own\r\n\r\n",
-            NEW,
-            "HTTP/1.1 299 \r\nDate: Sun, 06 Nov 1994 08:49:37 GMT\r\nTransfer-Encoding: chunked\r\n\r\n",
-        ),
-        (
-            "HTTP/1.0 404 No\r\nServer: b\r\n\r\n",
-            OLD,
-            "HTTP/1.0 404 Not Found\r\nConnection: close\r\nDate: Sun, 06 Nov 1994 08:49:37 GMT\r\nServer: b\r\n\r\n",
-        ),
-        (
-            "HTTP/1.1 200 OK\r\nContent-Length: 5\r\n\r\n",
-            OLD,
-            "HTTP/1.0 200 OK\r\nConnection: close\r\nContent-Length: 5\r\nDate: Sun, 06 Nov 1994 08:49:37 GMT\r\n\r\n",
-        ),
-        (
-            "HTTP/1.1 204 No Content\r\nContent-Length: 0\r\n\r\n",
-            NEW,
-            "HTTP/1.1 204 No Content\r\nDate: Sun, 06 Nov 1994 08:49:37 GMT\r\n\r\n",
-        ),
-        (
-            "HTTP/1.1 304 Not Modified\r\nContent-Length: 9\r\nETag: x\r\nDate: then\r\n\r\n",
-            ("GET", false, true),
-            "HTTP/1.1 304 Not Modified\r\nConnection: close\r\nContent-Length: 9\r\nDate: then\r\nEtag: x\r\n\r\n",
-        ),
-        (
-            "HTTP/1.1 200 OK\r\nContent-Length: 007\r\nConnection: date, x-a\r\nX-A: 1\r\nDate: then\r\nSet-Cookie: b\r\nSet-Cookie: a\r\n\r\n",
-            ("HEAD", false, false),
-            "HTTP/1.1 200 OK\r\nContent-Length: 7\r\nDate: Sun, 06 Nov 1994 08:49:37 GMT\r\nSet-Cookie: b\r\nSet-Cookie: a\r\n\r\n",
-        ),
-        (
-            "HTTP/1.1 200 OK\r\nTransfer-Encoding: chunked\r\n\r\n",
-            ("HEAD", false, false),
-            "HTTP/1.1 200 OK\r\nDate: Sun, 06 Nov 1994 08:49:37 GMT\r\n\r\n",
-        ),
-    ];
-    for (head, client, expected) in table {
-        match answered(rt.alloc(), head, client)? {
-            Some(text) => assert_eq!(rt; words(&text), expected),
-            None => panic!(rt; "refused: {head}"),
-        }
+    for row in &REPLIES {
+        assert!(rt; is_answered_as(rt.alloc(), row)?, "{}", row.0);
     }
     Ok(())
 }
@@ -248,8 +280,10 @@ fn bodies_to_a_client(rt: HostRuntime) {
     }
 }
 
-// The codes of plain replies, with the phrase and the length of the body.
-const PLAIN: [(u16, &str, u64); 11] = [
+/// The code of a plain reply, its phrase and the length of its body.
+type PlainRow = (u16, &'static str, u64);
+
+const PLAIN: [PlainRow; 11] = [
     (200, "OK", 7),
     (400, "Bad Request", 16),
     (404, "Not Found", 14),
@@ -275,51 +309,76 @@ fn plain(code: u16) -> Option<Own>
 
 const DATE: &str = "Date: Sun, 06 Nov 1994 08:49:37 GMT";
 
+// Whether just this text is the reply.
+fn is_said(
+    alloc: Global,
+    own: &Own,
+    method: &Method,
+    closes: bool,
+    now: u64,
+    text: &str,
+) -> Result<bool, Fail>
+    requires known { IsTrue (is_own own.now) }
+    requires dated { now < 253_402_300_800_000 }
+{
+    Ok(own_reply(alloc, own, method, closes, closes, now)?.as_slice() == text.as_bytes())
+}
+
+fn is_plain_as(alloc: Global, row: &PlainRow) -> Result<bool, Fail> {
+    let (code, phrase, length) = *row;
+    let Some(own) = plain(code) else {
+        return Ok(false);
+    };
+    let kept = format!(in alloc;
+        "HTTP/1.1 {code} {phrase}\r\nContent-Length: {length}\r\n{DATE}\r\n\r\n{code} {phrase}\n"
+    )?;
+    let closed = format!(in alloc;
+        "HTTP/1.0 {code} {phrase}\r\nConnection: close\r\nContent-Length: {length}\r\n{DATE}\r\n\r\n"
+    )?;
+    Ok(
+        is_said(alloc, &own, &Method::GET, false, NOW, &kept)?
+            && is_said(alloc, &own, &Method::HEAD, true, NOW + 999, &closed)?,
+    )
+}
+
 #[test]
 fn plain_replies(rt: HostRuntime) -> Result<(), Fail> {
-    for (code, phrase, length) in PLAIN {
-        let Some(own) = plain(code) else {
-            panic!(rt; "no plain reply {code}");
-        };
-        let kept = own_reply(rt.alloc(), &own, &Method::GET, false, false, NOW)?;
-        let expected = format!(in rt.alloc();
-            "HTTP/1.1 {code} {phrase}\r\nContent-Length: {length}\r\n{DATE}\r\n\r\n{code} {phrase}\n"
-        )?;
-        assert_eq!(rt; words(&kept), expected.as_str());
-        let closed = own_reply(rt.alloc(), &own, &Method::HEAD, true, true, NOW + 999)?;
-        let expected = format!(in rt.alloc();
-            "HTTP/1.0 {code} {phrase}\r\nConnection: close\r\nContent-Length: {length}\r\n{DATE}\r\n\r\n"
-        )?;
-        assert_eq!(rt; words(&closed), expected.as_str());
+    for row in &PLAIN {
+        assert!(rt; is_plain_as(rt.alloc(), row)?, "{}", row.0);
     }
     Ok(())
 }
 
+const OPTIONS: &str =
+    "HTTP/1.1 200 OK\r\nContent-Length: 0\r\nDate: Sun, 06 Nov 1994 08:49:37 GMT\r\n\r\n";
+
+const STOPPED: &str =
+    "HTTP/1.1 200 OK\r\nContent-Length: 7\r\nDate: Sun, 06 Nov 1994 08:49:37 GMT\r\n\r\n200 OK\n";
+
+const MOVED: &str =
+    "HTTP/1.1 301 Moved Permanently\r\nContent-Length: 0\r\nDate: Sun, 06 Nov 1994 08:49:37 GMT\r\nLocation: /a/c?x=1\r\n\r\n";
+
+const NOT_ALLOWED: &str =
+    "HTTP/1.1 405 Method Not Allowed\r\nAllow: GET, HEAD\r\nContent-Length: 23\r\nDate: Sun, 06 Nov 1994 08:49:37 GMT\r\n\r\n405 Method Not Allowed\n";
+
 #[test]
 fn other_own_replies(rt: HostRuntime) -> Result<(), Fail> {
     let alloc = rt.alloc();
-    let methods = vec![in alloc; Method::GET, Method::HEAD]?;
-    let table = [
-        (
-            Own::Options,
-            "HTTP/1.1 200 OK\r\nContent-Length: 0\r\nDate: Sun, 06 Nov 1994 08:49:37 GMT\r\n\r\n",
-        ),
-        (
-            Own::Stopped,
-            "HTTP/1.1 200 OK\r\nContent-Length: 7\r\nDate: Sun, 06 Nov 1994 08:49:37 GMT\r\n\r\n200 OK\n",
-        ),
-        (
-            Own::Moved(bytes_of(alloc, "/a/c?x=1")?),
-            "HTTP/1.1 301 Moved Permanently\r\nContent-Length: 0\r\nDate: Sun, 06 Nov 1994 08:49:37 GMT\r\nLocation: /a/c?x=1\r\n\r\n",
-        ),
-        (
-            Own::NotAllowed(methods),
-            "HTTP/1.1 405 Method Not Allowed\r\nAllow: GET, HEAD\r\nContent-Length: 23\r\nDate: Sun, 06 Nov 1994 08:49:37 GMT\r\n\r\n405 Method Not Allowed\n",
-        ),
-    ];
-    for (own, expected) in table {
-        let text = own_reply(alloc, &own, &Method::POST, false, false, NOW)?;
-        assert_eq!(rt; words(&text), expected);
-    }
+    let post = Method::POST;
+    assert!(rt;
+        is_said(alloc, &Own::Options, &post, false, NOW, OPTIONS)?,
+        "options"
+    );
+    assert!(rt;
+        is_said(alloc, &Own::Stopped, &post, false, NOW, STOPPED)?,
+        "stopped"
+    );
+    let moved = Own::Moved(bytes_of(alloc, "/a/c?x=1")?);
+    assert!(rt; is_said(alloc, &moved, &post, false, NOW, MOVED)?, "moved");
+    let methods = Own::NotAllowed(vec![in alloc; Method::GET, Method::HEAD]?);
+    assert!(rt;
+        is_said(alloc, &methods, &post, false, NOW, NOT_ALLOWED)?,
+        "not allowed"
+    );
     Ok(())
 }

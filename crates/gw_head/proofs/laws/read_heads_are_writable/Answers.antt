@@ -1,0 +1,5 @@
+use Rattle.gw_head.proofs.ReadPlain.{writable_reply}
+use Rattle.gw_head.proofs.laws.read_heads_are_writable.Goals as goal
+
+pub returns : goal.returns
+returns c = writable_reply
