@@ -1,10 +1,10 @@
 -- Numbers that a walk adds to a list.
-use Rattle.std.proofs.Common.{◌≡◌, ℕ, ◌+◌, Bool, true, false, List, [], ◌∷◌, ◌++◌, drop, map, All, Option, Some, None, Contains, ◌⊎◌, inl, inr, ⊎_elim, sym, refl, ap, subst, ◌∙◌}
+use Rattle.std.proofs.Common.{◌≡◌, ℕ, ◌+◌, Bool, true, false, List, [], ◌∷◌, ◌++◌, drop, map, All, Option, Some, None, Contains, ◌⊎◌, inl, inr, ⊎_elim, sym, refl, ap, subst}
 use Rattle.std.proofs.lemmas.List.Elements.{Contains-append_left, Contains-append_right, Contains-append_cases}
 use Rattle.percent_encoding.specs.Percent.{percent_decode}
 use Rattle.gw_pattern.specs.declared.form.Pattern.{Pattern}
 use Rattle.gw_pattern.specs.declared.form.Seg.{Seg}
-use Rattle.gw_pattern.specs.declared.form.Seg.TheVariants.{Rest, End}
+use Rattle.gw_pattern.specs.declared.form.Seg.TheVariants.{Rest}
 use Rattle.gw_pattern.specs.Pattern.{IsWellFormed}
 use Rattle.gw_sets.specs.Matches.{MethodMatches, SegsMatch}
 use Rattle.gw_mux.specs.Found.{Fits, IsAdded, IsNode, Remains}

@@ -1,17 +1,16 @@
 -- A walk at a node: the literal's branch, then that of `{x}`, then the rest.
-use Rattle.std.proofs.Common.{◌≡◌, ℕ, ◌+◌, ◌<◌, Bool, true, false, List, [], ◌∷◌, length, drop, All, Option, Some, None, Contains, ◌⊎◌, inl, inr, ⊎_elim, sym, refl, ap, subst, ◌∙◌, arith}
+use Rattle.std.proofs.Common.{◌≡◌, ℕ, ◌+◌, Bool, true, false, List, [], ◌∷◌, drop, All, Option, Some, None, ◌⊎◌, inl, inr, ⊎_elim, sym, refl, ap, subst, ◌∙◌}
 use Rattle.gw_pattern.specs.declared.form.Pattern.{Pattern}
 use Rattle.gw_pattern.specs.declared.form.Seg.{Seg}
 use Rattle.gw_pattern.specs.declared.form.Seg.TheVariants.{Literal, One, Rest, End}
 use Rattle.gw_pattern.specs.Pattern.{IsWellFormed}
 use Rattle.gw_sets.specs.Comparison.{relation_of_methods}
-use Rattle.gw_sets.specs.Matches.{MethodMatches, SegsMatch}
+use Rattle.gw_sets.specs.Matches.{SegsMatch}
 use Rattle.gw_mux.specs.Found.{Fits, IsFirst, IsNode, Precedes}
 use Rattle.gw_mux.specs.Keys.{first_key, tail_keys}
-use Rattle.gw_mux.specs.Order.{IsRun}
 use Rattle.gw_mux.specs.Table.{IsAt}
 use Rattle.gw_mux.proofs.Firsts.{First, Fitting, FittingIn, found_first, found_later, from_first}
-use Rattle.gw_mux.proofs.Heads.{behind, end_head, end_heads, formed_at, last_seg, literal_head, one_head, part_heads, rest_head, stopped}
+use Rattle.gw_mux.proofs.Heads.{behind, end_head, end_heads, formed_at, last_seg, literal_head, one_head, part_heads, rest_head}
 use Rattle.gw_mux.proofs.Nodes.{InRun, SaysSegment, in_key, key_in}
 use Rattle.gw_mux.proofs.Ranks.{IsAhead, end_rest, end_same, literal_one, literal_rest, literal_same, one_rest, one_same, rest_same}
 

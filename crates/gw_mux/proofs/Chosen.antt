@@ -51,6 +51,10 @@ pub best_of_own : (patterns : List Pattern) (a : Asked) (i : ℕ) → IsChosen p
 best_of_own patterns a i h =
     (inl h.1, λ j c ne. ⊎_elim (λ t. h.2 j (take_within patterns a a.host j t) t ne) (λ t. absurd (t.1 i h.1)) c)
 
+pub own_host : (own host : List ℕ) → own ≡ host → HostMatches own host
+own_host [] host e = tt
+own_host (b ∷ own) host e = sym e
+
 -- what has no host takes whatever host is asked for
 pub free_host : (own host : List ℕ) → own ≡ [] → HostMatches own host
 free_host [] host e = tt

@@ -1,5 +1,5 @@
 -- The first of two lots of candidates.
-use Rattle.std.proofs.Common.{◌≡◌, ℕ, ◌+◌, Option, Some, None, List, ◌∷◌, map, Bool, sym, ap, subst, Contains, ◌⊎◌, inl, inr, ⊎_elim}
+use Rattle.std.proofs.Common.{◌≡◌, ℕ, ◌+◌, Option, Some, None, List, ◌∷◌, map, Bool, sym, ap, subst, Contains, ◌⊎◌, ⊎_elim}
 use Rattle.gw_pattern.specs.declared.form.Pattern.{Pattern}
 use Rattle.percent_encoding.specs.Percent.{percent_decode}
 use Rattle.gw_mux.specs.Found.{Fits, IsFirst, Precedes}

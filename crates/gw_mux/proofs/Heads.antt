@@ -1,5 +1,5 @@
 -- The first of the segments that are left, by the key of its branch.
-use Rattle.std.proofs.Common.{◌≡◌, ℕ, zero, suc, ◌+◌, ◌<◌, Bool, true, false, List, [], ◌∷◌, length, drop, All, Option, Some, None, ◌⊎◌, inl, inr, sym, refl, ap, subst, ◌∙◌, arith}
+use Rattle.std.proofs.Common.{◌≡◌, ℕ, zero, suc, ◌+◌, Bool, true, false, List, [], ◌∷◌, drop, All, Option, ◌⊎◌, inl, inr, sym, refl, ap, subst, ◌∙◌, arith}
 use Rattle.std.proofs.lemmas.List.{drop-drop}
 use Rattle.std.proofs.lemmas.Option.{slice_get_within, get_or_from_slice_get}
 use Rattle.gw_pattern.specs.declared.form.Pattern.{Pattern}
@@ -7,7 +7,7 @@ use Rattle.gw_pattern.specs.declared.form.Seg.{Seg}
 use Rattle.gw_pattern.specs.declared.form.Seg.TheVariants.{Literal, One, Rest, End}
 use Rattle.gw_pattern.specs.Pattern.{AreWellFormed, IsWellFormed, MayStand}
 use Rattle.gw_sets.specs.Matches.{SegsMatch}
-use Rattle.gw_mux.specs.Keys.{first_key, method_key, seg_key, tail_keys}
+use Rattle.gw_mux.specs.Keys.{first_key, tail_keys}
 use Rattle.gw_mux.specs.Table.{IsAt}
 
 -- ---- by the key

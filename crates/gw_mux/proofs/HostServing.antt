@@ -1,9 +1,8 @@
 -- The patterns that the walks from a host's node and from that of no host add.
-use Rattle.std.proofs.Common.{◌≡◌, ◌↔◌, ℕ, ◌+◌, Bool, true, false, List, [], ◌∷◌, drop, Contains, ◌⊎◌, inl, inr, ⊎_elim, sym, refl, ap, subst, ◌∙◌, arith}
+use Rattle.std.proofs.Common.{◌≡◌, ◌↔◌, ℕ, Bool, true, false, List, [], ◌∷◌, Contains, ◌⊎◌, inl, inr, ⊎_elim, sym, refl, ap, subst, ◌∙◌, arith}
 use Rattle.gw_pattern.specs.declared.form.Pattern.{Pattern}
 use Rattle.gw_sets.specs.Matches.{HostMatches, SegsMatch}
-use Rattle.gw_sets.specs.Shape.{Asked}
-use Rattle.gw_mux.specs.Allow.{IsServed, ServesPath}
+use Rattle.gw_mux.specs.Allow.{IsServed}
 use Rattle.gw_mux.specs.Found.{IsAdded, Remains}
 use Rattle.gw_mux.specs.Keys.{first_key, host_key, keys_there}
 use Rattle.gw_mux.specs.Order.{IsOrder, IsRun}
@@ -12,11 +11,10 @@ use Rattle.gw_mux.specs.Table.{IsAt}
 use Rattle.gw_mux.specs.Walk.{segments_in}
 use Rattle.std.proofs.lemmas.Option.{slice_get_within}
 use Rattle.gw_mux.proofs.Adding.{added_as, added_both}
-use Rattle.gw_mux.proofs.Chosen.{free_host}
+use Rattle.gw_mux.proofs.Chosen.{own_host, free_host}
 use Rattle.gw_mux.proofs.Heads.{same_rest}
-use Rattle.gw_mux.proofs.Matched.{own_host}
 use Rattle.gw_mux.proofs.Paths.{IsSeen}
-use Rattle.gw_mux.proofs.Serving.{Served, from_served, to_serve}
+use Rattle.gw_mux.proofs.Serving.{from_served, to_serve}
 
 module _ (patterns : List Pattern) (host order roots : List ℕ) (parts : List (List ℕ)) (is_order : IsOrder patterns order) (is : IsRun patterns 0 (host_key host) order roots) where
   abbrev Matched : Bool → ℕ → Type 0

@@ -18,8 +18,7 @@ use Rattle.gw_sets.proofs.Segments.{has_segments}
 use Rattle.gw_mux.specs.Best.{IsAnswered, IsChosen, is_more_general}
 use Rattle.gw_mux.specs.Decision.{DoesTake, IsBest, IsCandidate, IsMoreSpecific}
 use Rattle.gw_mux.specs.Table.{IsAt, HasNoConflict, IsProper, AreProper}
-use Rattle.gw_mux.proofs.Chosen.{at_host, best_of_own, best_of_free, chosen_first, chosen_next, chosen_skip}
-use Rattle.gw_mux.proofs.Matched.{own_host}
+use Rattle.gw_mux.proofs.Chosen.{own_host, at_host, best_of_own, best_of_free, chosen_first, chosen_next, chosen_skip}
 use Rattle.gw_mux.proofs.Orders.{prevailing, take_within, takes_at, takes_from}
 
 proper_at : (patterns : List Pattern) (i : ℕ) (p : Pattern) → AreProper patterns → IsAt patterns i p → IsProper p

@@ -1,13 +1,11 @@
 -- The first pattern that the walk from a host's node meets is the most specific.
-use Rattle.std.proofs.Common.{◌≡◌, ◌≢◌, ℕ, ◌+◌, ◌<◌, Bool, true, false, List, [], ◌∷◌, length, drop, All, bytes_eq, if◌then◌else◌, Option, Some, None, Contains, codes, ◌⊎◌, inl, inr, ⊎_elim, lit<, sym, refl, ap, subst, ◌∙◌, arith}
+use Rattle.std.proofs.Common.{◌≡◌, ◌≢◌, ℕ, ◌<◌, Bool, true, false, List, [], ◌∷◌, length, drop, All, bytes_eq, if◌then◌else◌, Option, Some, None, Contains, codes, ⊎_elim, lit<, sym, refl, ap, subst, ◌∙◌}
 use Rattle.std.specs.Bool.{MatchBool}
 use Rattle.std.proofs.lemmas.List.Elements.{All-nil, All-cons}
 use Rattle.std.proofs.lemmas.Slice.Eq.{bytes_eq-Decides}
 use Rattle.gw_pattern.specs.declared.form.Pattern.{Pattern}
-use Rattle.gw_pattern.specs.declared.form.Seg.{Seg}
 use Rattle.gw_pattern.specs.Pattern.{IsWellFormed}
-use Rattle.gw_sets.specs.declared.relation.Relation.{Relation}
-use Rattle.gw_sets.specs.declared.relation.Relation.TheVariants.{Equal, MoreSpecific, MoreGeneral, Disjoint, Overlap}
+use Rattle.gw_sets.specs.declared.relation.Relation.TheVariants.{Equal, MoreSpecific, MoreGeneral, Disjoint}
 use Rattle.gw_sets.specs.Comparison.{AreMethodBytes, product, relation_of_hosts, relation_of_methods, relation_of_segs}
 use Rattle.gw_sets.specs.Matches.{Matches, MethodMatches, Requests}
 use Rattle.gw_sets.specs.Relation.{IsBelow, Conflicts}
@@ -16,13 +14,13 @@ use Rattle.gw_sets.proofs.Requests.{whole_relation}
 use Rattle.gw_mux.specs.Best.{IsChosen, is_more_general}
 use Rattle.gw_mux.specs.Decision.{DoesTake, IsMoreSpecific}
 use Rattle.gw_mux.specs.Found.{Fits, IsFirst, IsNode, Precedes}
-use Rattle.gw_mux.specs.Keys.{first_key, host_key, keys_there, tail_at}
+use Rattle.gw_mux.specs.Keys.{first_key, host_key, keys_there}
 use Rattle.gw_mux.specs.Order.{IsOrder, IsRun}
 use Rattle.gw_mux.specs.Table.{IsAt, DoConflict, HasNoConflict, IsProper, IsTable}
 use Rattle.gw_mux.proofs.Heads.{formed_at, same_rest}
 use Rattle.gw_mux.proofs.Lawful.{apart_numbers, compared}
-use Rattle.gw_mux.proofs.Matched.{own_host}
-use Rattle.gw_mux.proofs.Orders.{ordered, specific_at, take_within, takes_at}
+use Rattle.gw_mux.proofs.Chosen.{own_host}
+use Rattle.gw_mux.proofs.Orders.{ordered, specific_at, take_within}
 
 -- ---- what matches a shape is bytes
 

@@ -11,7 +11,6 @@ mod HostServing
 mod KeyOrder
 mod Leading
 mod Lengths
-mod Matched
 mod MethodBranches
 mod Methods
 mod Nodes
@@ -20,8 +19,12 @@ mod Parts
 mod Paths
 mod Ranks
 mod Redirecting
+mod Refusing
 mod Rows
 mod Runs
 mod Serving
+mod Spanning
 mod Shapes
 mod Steps
+mod Targets
+mod Unique

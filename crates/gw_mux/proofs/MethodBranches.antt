@@ -1,5 +1,5 @@
 -- The patterns whose segments end at a node, by their methods.
-use Rattle.std.proofs.Common.{◌≡◌, ℕ, ◌+◌, ◌<◌, Bool, true, false, List, [], ◌∷◌, length, drop, codes, Option, Some, None, Contains, ◌⊎◌, inl, inr, ⊎_elim, sym, refl, ap, subst, ◌∙◌, arith}
+use Rattle.std.proofs.Common.{◌≡◌, ℕ, ◌+◌, false, List, [], ◌∷◌, drop, codes, Option, Some, None, Contains, inl, inr, ⊎_elim, sym, refl, ap, subst, ◌∙◌, arith}
 use Rattle.std.proofs.lemmas.List.{drop-drop}
 use Rattle.gw_pattern.specs.declared.form.Pattern.{Pattern}
 use Rattle.gw_sets.specs.Comparison.{relation_of_methods}

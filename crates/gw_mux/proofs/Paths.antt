@@ -65,13 +65,13 @@ no_front ([] ∷ []) h = absurd (both_ways true h refl)
 no_front ((b ∷ part) ∷ []) h = refl
 no_front (part ∷ next ∷ parts) h = ap (λ x. part ∷ x) (no_front (next ∷ parts) h)
 
-ends_of : (parts : List (List ℕ)) (tail : List ℕ) → 0 < length parts → parts ≡ parts_of tail → ends_in_slash (slash ∷ tail) ≡ ends_empty parts
+pub ends_of : (parts : List (List ℕ)) (tail : List ℕ) → 0 < length parts → parts ≡ parts_of tail → ends_in_slash (slash ∷ tail) ≡ ends_empty parts
 ends_of [] tail some e = absurd (omega arith)
 ends_of (part ∷ parts) tail some e =
     ap (λ t. ends_in_slash (slash ∷ t)) (sym (ap (λ x. join_with_byte slash x) e ∙ join_with_byte-slice_split slash tail))
     ∙ ends_joined part parts (subst ArePlain (sym e) (plain_parts tail))
 
-sent_tail : (tail : List ℕ) → are_tidy (parts_of tail) ≡ true → sent_segments (slash ∷ tail) ≡ front (parts_of tail)
+pub sent_tail : (tail : List ℕ) → are_tidy (parts_of tail) ≡ true → sent_segments (slash ∷ tail) ≡ front (parts_of tail)
 sent_tail tail tidy = filled_front (parts_of tail) tidy
 
 body_front : (body tail : List ℕ) → body ++ slash ∷ [] ≡ slash ∷ tail → parts_in body ≡ front (parts_of tail)

@@ -1,14 +1,13 @@
 -- Which patterns serve a path, and which methods they allow.
-use Rattle.std.proofs.Common.{◌≡◌, ◌↔◌, IsTrue, ℕ, ◌+◌, ◌<◌, Bool, true, false, not, ◌&&◌, ◌||◌, List, [], ◌∷◌, ◌++◌, slice_index, eqb, Option, Some, None, codes, ◌⊎◌, inl, inr, ⊎_elim, if◌then◌else◌, sym, refl, subst, ap, ◌∙◌, arith}
+use Rattle.std.proofs.Common.{◌≡◌, ◌↔◌, ℕ, ◌+◌, ◌<◌, Bool, true, false, List, [], ◌∷◌, ◌++◌, slice_index, eqb, Option, Some, None, codes, ◌⊎◌, inl, inr, ⊎_elim, if◌then◌else◌, sym, refl, subst, ap, ◌∙◌, arith}
 use Rattle.std.specs.Bool.{Decides}
 use Rattle.std.specs.List.{Contains}
 use Rattle.std.proofs.lemmas.List.Elements.{Contains-append_left, Contains-append_right, Contains-append_cases, Contains-push, Contains-push_cases}
 use Rattle.std.proofs.lemmas.Bool.{cases_Bool, eqb-true, eqb-false}
 use Rattle.std.proofs.lemmas.Slice.Eq.{bytes_eq-Decides}
 use Rattle.gw_pattern.specs.declared.form.Pattern.{Pattern}
-use Rattle.gw_sets.specs.Comparison.{is_get, matches_host, matches_segs}
+use Rattle.gw_sets.specs.Comparison.{is_get}
 use Rattle.gw_sets.specs.Matches.{HostMatches, MethodMatches, SegsMatch}
-use Rattle.gw_sets.proofs.Deciding.{host_decides, segs_decide}
 use Rattle.gw_mux.specs.Allow.{AreNamed, DoesServe, HasGained, ServesPath, named_methods}
 use Rattle.gw_mux.specs.Table.{IsAt}
 use Rattle.gw_mux.specs.Walk.{segments_in}

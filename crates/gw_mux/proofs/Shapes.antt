@@ -7,7 +7,7 @@ use Rattle.percent_encoding.specs.Percent.{percent_decode}
 use Rattle.percent_encoding.proofs.PercentLemmas.{All-percent_decode, length-percent_decode}
 use Rattle.gw_pattern.specs.Path.{is_slash, parts_of}
 use Rattle.gw_sets.specs.Shape.{AreBytes, AreSegments, IsSegment, IsShape}
-use Rattle.gw_mux.specs.Request.{is_filled, parts_in, sent_segments}
+use Rattle.gw_mux.specs.Request.{asked_for, is_filled, parts_in, sent_segments}
 use Rattle.gw_mux.specs.Walk.{asked_by}
 
 abbrev Small : ℕ → Type 0
@@ -40,3 +40,7 @@ filled_segments ((b ∷ part) ∷ parts) h = (decoded_segment b part h.0, filled
 pub shape_seen : (method host path body : List ℕ) (slash : Bool) → AreBytes method → AreBytes host → AreBytes path → sent_segments path ≡ parts_in body → IsShape (asked_by method host body slash)
 shape_seen method host path body slash m h p e =
     (m, h, subst (λ s. AreSegments (map percent_decode s)) e (filled_segments (parts_of path) (parts_small path (recursion_from_All Small path p))))
+
+pub shape_asked : (method host path : List ℕ) → AreBytes method → AreBytes host → AreBytes path → IsShape (asked_for method host path)
+unfolding asked_for
+shape_asked method host path m h p = (m, h, filled_segments (parts_of path) (parts_small path (recursion_from_All Small path p)))

@@ -1,13 +1,11 @@
 -- One step of a walk over segments and a path.
-use Rattle.std.proofs.Common.{◌≡◌, ℕ, suc, ◌<◌, ◌≤◌, Bool, true, false, ◌==◌, List, [], ◌∷◌, length, map, get_or, drop, sym, refl, ap, ◌∙◌, arith, drop-cons}
-use Rattle.std.proofs.lemmas.Bool.{both_ways, ne_eqb}
-use Rattle.std.proofs.lemmas.List.{drop_all}
+use Rattle.std.proofs.Common.{◌≡◌, ℕ, suc, ◌<◌, false, ◌==◌, List, [], ◌∷◌, length, map, get_or, drop, sym, refl, ap, ◌∙◌, arith, drop-cons}
+use Rattle.std.proofs.lemmas.Bool.{ne_eqb}
 use Rattle.percent_encoding.specs.Percent.{percent_decode}
 use Rattle.gw_pattern.specs.declared.form.Seg.{Seg}
-use Rattle.gw_pattern.specs.declared.form.Seg.TheVariants.{Rest, End}
+use Rattle.gw_pattern.specs.declared.form.Seg.TheVariants.{Rest}
 use Rattle.gw_pattern.specs.Path.{parts_of}
 use Rattle.gw_pattern.proofs.Tidy.{some_parts}
-use Rattle.gw_sets.specs.Comparison.{matches_segs}
 use Rattle.gw_mux.specs.Request.{is_exact}
 use Rattle.gw_mux.specs.Walk.{segments_in}
 
@@ -15,29 +13,9 @@ use Rattle.gw_mux.specs.Walk.{segments_in}
 pub at_seg : (segs : List Seg) (i : ℕ) (seg here : Seg) → i < length segs → seg ≡ get_or segs i seg → seg ≡ here → drop i segs ≡ here ∷ drop (suc i) segs
 at_seg segs i seg here within e h = drop-cons segs i seg within ∙ ap (λ s. s ∷ drop (suc i) segs) (sym e ∙ h)
 
-pub all_walked : (segs : List Seg) (i : ℕ) → length segs ≤ i → drop i segs ≡ []
-all_walked segs i past = drop_all i segs past
-
 mapped : (parts : List (List ℕ)) → 0 < length parts → 0 < length (map percent_decode parts)
 mapped [] h = absurd (omega arith)
 mapped (part ∷ parts) h = omega arith
-
--- where bytes are left, so is a segment
-pub some_left : (left : List ℕ) → (length left == 0) ≡ false → 0 < length (segments_in left)
-some_left [] h = absurd (both_ways true h refl)
-some_left (b ∷ tail) h = mapped (parts_of tail) (some_parts tail)
-
-pub end_refuses : (segs : List Seg) (parts : List (List ℕ)) (slash : Bool) → 0 < length parts → matches_segs (End ∷ segs) parts slash ≡ false
-end_refuses segs [] slash h = absurd (omega arith)
-end_refuses segs (part ∷ parts) slash h = refl
-
-pub rest_takes : (name : List ℕ) (segs : List Seg) (parts : List (List ℕ)) (slash : Bool) → 0 < length parts → matches_segs (Rest name ∷ segs) parts slash ≡ true
-rest_takes name segs [] slash h = absurd (omega arith)
-rest_takes name segs (part ∷ parts) slash h = refl
-
-pub nothing_refuses : (parts : List (List ℕ)) (slash : Bool) → 0 < length parts → matches_segs [] parts slash ≡ false
-nothing_refuses [] slash h = absurd (omega arith)
-nothing_refuses (part ∷ parts) slash h = refl
 
 exact_here : (name : List ℕ) (segs : List Seg) (parts : List (List ℕ)) → 0 < length parts → is_exact (Rest name ∷ segs) parts ≡ false
 exact_here name segs [] h = absurd (omega arith)

@@ -3,6 +3,7 @@ pub mod Best
 pub mod Keys
 pub mod Found
 pub mod Label
+pub mod Laws
 pub mod Allow
 pub mod Decision
 pub mod Location

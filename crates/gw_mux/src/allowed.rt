@@ -2,9 +2,10 @@
 ghost use Rattle.std.specs.Prelude.{◌<◌, [], ◌∷◌, All, IfOk, OnOk, length};
 ghost use Rattle.gw_mux.specs.Allow.{AreAllowed, AreNamed, HasGained, named_methods};
 
+use crate::error::NoMemory;
 use gw_pattern::Pattern;
 use http::Method;
-use std::alloc::{AllocError, Global};
+use std::alloc::Global;
 
 /// The methods of the patterns of these numbers, which are those that serve a path: each once, sorted by its bytes,
 /// with HEAD beside GET. The error is want of memory.
@@ -12,7 +13,7 @@ pub(crate) fn allowed(
     alloc: Global,
     patterns: &[Pattern],
     served: &[u32],
-) -> Result<Vec<Method>, AllocError>
+) -> Result<Vec<Method>, NoMemory>
     requires { All (λ i. i < length patterns.now) served.now }
     ensures { IfOk result (λ methods. AreAllowed patterns.now served.now methods.items) }
 {
@@ -23,11 +24,7 @@ pub(crate) fn allowed(
 }
 
 // The methods in the order of the numbers.
-fn methods_of(
-    alloc: Global,
-    patterns: &[Pattern],
-    served: &[u32],
-) -> Result<Vec<Method>, AllocError>
+fn methods_of(alloc: Global, patterns: &[Pattern], served: &[u32]) -> Result<Vec<Method>, NoMemory>
     requires { All (λ i. i < length patterns.now) served.now }
     ensures { IfOk result (λ methods. AreNamed patterns.now served.now (length served.now) methods.items) }
 {
@@ -39,7 +36,7 @@ fn methods_of(
 }
 
 // Adds the method, and HEAD behind GET.
-fn add_method(methods: &mut Vec<Method>, method: &Option<Method>) -> Result<(), AllocError>
+fn add_method(methods: &mut Vec<Method>, method: &Option<Method>) -> Result<(), NoMemory>
     ensures { OnOk result (HasGained methods.old.items (named_methods method.now) methods.new.items) }
 {
     let Some(method) = method else {
@@ -53,7 +50,7 @@ fn add_method(methods: &mut Vec<Method>, method: &Option<Method>) -> Result<(), 
 }
 
 // Adds the method, if it isn't there.
-fn add_once(methods: &mut Vec<Method>, method: &Method) -> Result<(), AllocError>
+fn add_once(methods: &mut Vec<Method>, method: &Method) -> Result<(), NoMemory>
     ensures { OnOk result (HasGained methods.old.items (method.now ∷ []) methods.new.items) }
 {
     if !methods.contains(method) {

@@ -1,5 +1,5 @@
 //! What the router answers.
-ghost use Rattle.std.specs.Prelude.{◌≡◌, [], ◌∷◌, ◌++◌, ◌<◌, length};
+ghost use Rattle.std.specs.Prelude.{◌≡◌, [], ◌∷◌, ◌++◌, ◌<◌, ◌≤◌, length};
 
 use arrayvec::ArrayVec;
 use http::Method;
@@ -49,7 +49,8 @@ impl Spans {
 
     /// The places, from the first wildcard on. Takes no memory.
     pub fn as_slice(&self) -> &[(usize, usize)]
-        ensures { result.now ≡ self.now }
+        ensures places { result.now ≡ self.now }
+        ensures few { length result.now ≤ 16 }
     {
         self.places.as_slice()
     }

@@ -6,6 +6,7 @@ mod allowed;
 mod answer;
 mod best;
 mod conflicts;
+mod error;
 mod keys;
 mod label;
 mod laws;
@@ -18,7 +19,11 @@ mod tree;
 mod walk;
 
 pub use answer::{Decision, Found, Hit, MuxError, Spans};
-pub use laws::{best_is_there, candidates_are_ordered};
+pub use error::NoMemory;
+pub use laws::{
+    best_is_there, candidates_are_ordered, decisions_are_unique, refusals_name_a_method,
+    targets_are_visible, wildcards_have_spans,
+};
 pub use routing::Mux;
 
 #[cfg(test)]

@@ -4,13 +4,14 @@ ghost use Rattle.std.specs.Prelude.{IfOk, ◌<◌, ◌^◌, length};
 ghost use Rattle.gw_mux.specs.Label.{asked_key};
 ghost use Rattle.gw_mux.specs.Order.{IsOrder, IsRun, IsSortedFrom};
 
+use crate::error::NoMemory;
 use crate::keys::{compare_branch, compare_numbers};
 use crate::label::Asked;
 use gw_pattern::Pattern;
-use std::alloc::{AllocError, Global};
+use std::alloc::Global;
 
 /// The numbers of the patterns in the order of their branches. The error is want of memory.
-pub(crate) fn order_of(alloc: Global, patterns: &[Pattern]) -> Result<Vec<u32>, AllocError>
+pub(crate) fn order_of(alloc: Global, patterns: &[Pattern]) -> Result<Vec<u32>, NoMemory>
     requires { length patterns.now < 2 ^ 32 }
     ensures { IfOk result (λ numbers. IsOrder patterns.now numbers.items) }
 {

@@ -11,6 +11,7 @@ use crate::allowed::allowed;
 use crate::answer::{Decision, Found, Hit, MuxError};
 use crate::best::{best, wants_slash};
 use crate::conflicts::first_conflict;
+use crate::error::NoMemory;
 use crate::location::location;
 use crate::order::order_of;
 use crate::sent::{SentPath, lengths_of};
@@ -18,7 +19,7 @@ use crate::served::served;
 use crate::walk::{cut_slash, spans};
 use gw_pattern::{Pattern, clean, is_clean};
 use http::Method;
-use std::alloc::{AllocError, Global};
+use std::alloc::Global;
 use std::marker::Model;
 
 /// A list of patterns without conflicts, which decides what answers a request.
@@ -81,7 +82,7 @@ impl Mux {
     /// The methods of the patterns that match the clean path, or this with a slash more where it ends in none, but for
     /// the method (RFC 9110, section 10.2.1): each once, sorted by its bytes, with HEAD beside GET. The error is want of
     /// memory.
-    pub fn allow(&self, alloc: Global, host: &[u8], path: &[u8]) -> Result<Vec<Method>, AllocError>
+    pub fn allow(&self, alloc: Global, host: &[u8], path: &[u8]) -> Result<Vec<Method>, NoMemory>
         requires { IsClean path.now }
         ensures { IfOk result (λ methods. IsAllow self.now host.now path.now methods.items) }
     {
@@ -99,7 +100,7 @@ impl Mux {
         host: &[u8],
         path: &[u8],
         query: Option<&[u8]>,
-    ) -> Result<Decision, AllocError>
+    ) -> Result<Decision, NoMemory>
         ensures { IfOk result (Decides self.now method.now host.now path.now (bytes_of query.entry)) }
     {
         if is_clean(path) {
@@ -135,7 +136,7 @@ fn decide_clean(
     host: &[u8],
     path: &[u8],
     query: Option<&[u8]>,
-) -> Result<Decision, AllocError>
+) -> Result<Decision, NoMemory>
     requires table { IsTable patterns.now }
     requires order { IsOrder patterns.now order.now }
     requires clean { IsClean path.now }
@@ -155,7 +156,7 @@ fn decide_unmatched(
     order: &[u32],
     host: &[u8],
     path: &[u8],
-) -> Result<Decision, AllocError>
+) -> Result<Decision, NoMemory>
     requires table { IsTable patterns.now }
     requires order { IsOrder patterns.now order.now }
     requires clean { IsClean path.now }
@@ -177,7 +178,7 @@ fn redirect(
     host: &[u8],
     path: &[u8],
     query: Option<&[u8]>,
-) -> Result<Decision, AllocError>
+) -> Result<Decision, NoMemory>
     requires table { IsTable patterns.now }
     requires order { IsOrder patterns.now order.now }
     requires unclean { IsClean path.now → ⊥ }

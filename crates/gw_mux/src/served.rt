@@ -9,12 +9,13 @@ ghost use Rattle.gw_mux.specs.Served.{Serves};
 ghost use Rattle.gw_mux.specs.Table.{IsTable};
 ghost use Rattle.gw_mux.specs.Walk.{segments_in};
 
+use crate::error::NoMemory;
 use crate::label::{Asked, Label};
 use crate::order::run_of;
 use crate::sent::{SentPath, first_part, lengths_of};
 use crate::walk::cut_slash;
 use gw_pattern::Pattern;
-use std::alloc::{AllocError, Global};
+use std::alloc::Global;
 
 /// The numbers of the patterns that match the clean path, or this with a slash more where it ends in none, but for the
 /// method; some may stand twice. The error is want of memory.
@@ -24,7 +25,7 @@ pub(crate) fn served(
     order: &[u32],
     host: &[u8],
     path: &[u8],
-) -> Result<Vec<u32>, AllocError>
+) -> Result<Vec<u32>, NoMemory>
     requires table { IsTable patterns.now }
     requires order { IsOrder patterns.now order.now }
     requires clean { IsClean path.now }
@@ -50,7 +51,7 @@ fn add_of_host(
     order: &[u32],
     host: &[u8],
     path: SentPath<'_>,
-) -> Result<(), AllocError>
+) -> Result<(), NoMemory>
     requires table { IsTable patterns.now }
     requires order { IsOrder patterns.now order.now }
     requires lengths { AreLengths path.lengths.now path.body.now }
@@ -76,7 +77,7 @@ fn add_below(
     numbers: &[u32],
     at: usize,
     path: SentPath<'_>,
-) -> Result<(), AllocError>
+) -> Result<(), NoMemory>
     requires table { IsTable patterns.now }
     requires node { IsNode patterns.now at numbers.now }
     requires lengths { AreLengths path.lengths.now path.body.now }
@@ -104,7 +105,7 @@ fn add_ended(
     numbers: &[u32],
     at: usize,
     slash: bool,
-) -> Result<(), AllocError>
+) -> Result<(), NoMemory>
     requires node { IsNode patterns.now at numbers.now }
     requires deep { at + 4 < 2 ^ 64 }
     ensures { OnOk result (IsAdded (Remains patterns.now numbers.now at [] slash) found.old.items found.new.items) }

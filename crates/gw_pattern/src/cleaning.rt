@@ -4,12 +4,13 @@ ghost use Rattle.gw_pattern.specs.Path.{cleaned, ends_in_slash, is_idle, is_pare
 ghost use Rattle.gw_pattern.specs.Walk.{SplitsPart, closed_bytes, with_part_bytes, without_last_part};
 ghost use Rattle.gw_pattern.specs.Path.{are_tidy, is_special};
 
-use std::alloc::{AllocError, Global};
+use crate::error::NoMemory;
+use std::alloc::Global;
 
 /// The cleaned path: empty parts and `.` are left out, `..` takes the part before it away, and a slash at the end
 /// stays where a part remains. Parts are compared as sent, so `%2e` is no dot. One allocation serves every path that
 /// begins with a slash.
-pub fn clean(alloc: Global, path: &[u8]) -> Result<Vec<u8>, AllocError>
+pub fn clean(alloc: Global, path: &[u8]) -> Result<Vec<u8>, NoMemory>
     ensures { IfOk result (λ clean. clean.items ≡ cleaned path.now) }
 {
     let mut clean = Vec::with_capacity(alloc, path.len())?;
@@ -68,7 +69,7 @@ pub(crate) fn place_of(bytes: &[u8], byte: u8) -> Option<usize>
 }
 
 // Adds a part to the path so far, or takes the last one away.
-fn put_part(clean: &mut Vec<u8>, part: &[u8]) -> Result<(), AllocError>
+fn put_part(clean: &mut Vec<u8>, part: &[u8]) -> Result<(), NoMemory>
     ensures { OnOk result (clean.new.items ≡ with_part_bytes clean.old.items part.now) }
 {
     if is_idle(part) {
@@ -83,7 +84,7 @@ fn put_part(clean: &mut Vec<u8>, part: &[u8]) -> Result<(), AllocError>
 }
 
 // Adds the slash at the end, or the only one.
-fn close(mut clean: Vec<u8>, is_slashed: bool) -> Result<Vec<u8>, AllocError>
+fn close(mut clean: Vec<u8>, is_slashed: bool) -> Result<Vec<u8>, NoMemory>
     ensures { IfOk result (λ closed. closed.items ≡ closed_bytes clean.items is_slashed) }
 {
     if clean.is_empty() || is_slashed {

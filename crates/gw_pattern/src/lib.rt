@@ -3,6 +3,7 @@
 #![tactic(auto)]
 
 mod cleaning;
+mod error;
 mod fault;
 mod form;
 mod laws;
@@ -10,6 +11,7 @@ mod reading;
 mod segment;
 
 pub use cleaning::{clean, is_clean};
+pub use error::NoMemory;
 pub use fault::{PCode, PatternError};
 pub use form::{Pattern, Seg};
 pub use laws::{clean_paths, cleaned_begins_with_slash, cleaned_is_clean, texts_spell_patterns};

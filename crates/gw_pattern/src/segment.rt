@@ -5,11 +5,12 @@ ghost use Rattle.gw_pattern.specs.Text.{Gives, begins_with_hex, braced_said, end
 ghost use Rattle.std.specs.List.{list_all, list_any};
 
 use crate::cleaning::place_of;
+use crate::error::NoMemory;
 use crate::fault::{PCode, PatternError};
 use crate::form::Seg;
 use gw_wire::Bytes;
 use percent_encoding::percent_decode;
-use std::alloc::{AllocError, Global};
+use std::alloc::Global;
 
 const MAX_SEGMENTS: usize = 64;
 
@@ -200,7 +201,7 @@ fn is_name_byte(b: u8) -> bool
 
 // The bytes of a literal: decoded, or as written where an escape is not whole, since decoding leaves such a `%` alone.
 #[tactic(auto, unfolding(crate::specs::Text::literal_of))]
-fn literal(alloc: Global, part: &[u8]) -> Result<Bytes, AllocError>
+fn literal(alloc: Global, part: &[u8]) -> Result<Bytes, NoMemory>
     ensures { IfOk result (λ bytes. bytes ≡ literal_of part.now) }
 {
     if !has_whole_escapes(part) {

@@ -1,4 +1,4 @@
-use Rattle.std.proofs.Common.{◌≡◌, true, false, codes, bytes_eq, sym, subst, ap, ◌∙◌}
+use Rattle.std.proofs.Common.{◌≡◌, true, false, sym, subst, ◌∙◌}
 use Rattle.gw_sets.specs.Comparison.{is_get}
 use Rattle.gw_mux.specs.Allow.{HasGained, named_methods}
 use Rattle.gw_mux.proofs.Serving.{gained_get, gained_other}

@@ -1,6 +1,5 @@
-use Rattle.std.proofs.Common.{◌≡◌, ◌<◌, ◌+◌, length, get_or, slice_index, sym, subst, ap, ◌∙◌, arith}
+use Rattle.std.proofs.Common.{◌≡◌, length, slice_index, sym, subst, ap, arith}
 use Rattle.gw_mux.specs.Allow.{AreNamed, HasGained, named_methods}
-use Rattle.gw_mux.specs.Table.{IsAt}
 use Rattle.gw_mux.proofs.Conflicting.{at_read}
 use Rattle.gw_mux.proofs.Serving.{named_next, named_none}
 use Rattle.gw_mux.proofs.allowed.methods_of.Goals as goal

@@ -1,4 +1,4 @@
-use Rattle.std.proofs.Common.{◌≡◌, ◌∷◌, drop, suc, ◌-◌, length, sym, ap, ◌∙◌, arith}
+use Rattle.std.proofs.Common.{◌∷◌, drop, ◌-◌, sym, ap, ◌∙◌, arith}
 use Rattle.gw_mux.specs.Keys.{here_key, host_key, method_key, seg_key, tail_keys}
 use Rattle.gw_mux.proofs.Branches.{seg_label, here_label, method_label, no_label, below_host, none_below_host}
 use Rattle.gw_mux.proofs.keys.label_at.Goals as goal

@@ -1,4 +1,4 @@
-use Rattle.std.proofs.Common.{◌≡◌, ◌<◌, All, Contains, length, vec_len, get_or, slice_index, sym, subst, ◌∙◌, arith}
+use Rattle.std.proofs.Common.{◌<◌, All, length, vec_len, get_or, sym, subst, ◌∙◌, arith}
 use Rattle.std.proofs.lemmas.Bool.{eqb-true, eqb-false}
 use Rattle.std.proofs.lemmas.List.Elements.{Contains-get_or}
 use Rattle.gw_mux.specs.Allow.{AreAllowed}

@@ -1,4 +1,4 @@
-use Rattle.std.proofs.Common.{◌≡◌, [], true, false, not, sym, subst}
+use Rattle.std.proofs.Common.{[], sym, subst}
 use Rattle.gw_mux.specs.Found.{IsAdded, Remains}
 use Rattle.gw_mux.proofs.Adding.{added_ended, added_stopped}
 use Rattle.gw_mux.proofs.served.add_ended.Goals as goal

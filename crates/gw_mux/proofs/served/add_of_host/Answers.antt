@@ -1,4 +1,4 @@
-use Rattle.std.proofs.Common.{◌≡◌, true, false, sym, subst}
+use Rattle.std.proofs.Common.{sym, subst}
 use Rattle.gw_mux.specs.Found.{IsAdded, Remains}
 use Rattle.gw_mux.specs.Served.{Serves}
 use Rattle.gw_mux.specs.Walk.{asked_by, segments_in}

@@ -1,4 +1,4 @@
-use Rattle.std.proofs.Common.{◌≡◌, ◌+◌, [], ◌∷◌, true, false, None, Some, map, sym, ap, subst, ◌∙◌, arith}
+use Rattle.std.proofs.Common.{◌+◌, [], ◌∷◌, false, None, Some, subst, arith}
 use Rattle.percent_encoding.specs.Percent.{percent_decode}
 use Rattle.gw_mux.specs.Found.{IsFirst}
 use Rattle.gw_mux.specs.Walk.{segments_in}

@@ -1,4 +1,4 @@
-use Rattle.std.proofs.Common.{◌≡◌, ◌+◌, [], ◌∷◌, true, false, None, Some, sym, subst}
+use Rattle.std.proofs.Common.{◌+◌, [], ◌∷◌, false, None, Some, sym, subst}
 use Rattle.gw_mux.specs.Found.{IsFirst}
 use Rattle.gw_mux.proofs.Branching.{by_end, by_left, says_end, says_rest}
 use Rattle.gw_mux.proofs.Firsts.{run_first}

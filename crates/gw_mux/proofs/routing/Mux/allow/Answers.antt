@@ -1,5 +1,5 @@
-use Rattle.std.proofs.Common.{◌≡◌, ◌<◌, ◌↔◌, ℕ, All, Contains, length, sym, subst, ◌∙◌}
-use Rattle.gw_mux.specs.Allow.{AreAllowed, IsAllow, IsServed}
+use Rattle.std.proofs.Common.{◌<◌, All, length, sym, subst, ◌∙◌}
+use Rattle.gw_mux.specs.Allow.{AreAllowed, IsAllow}
 use Rattle.gw_mux.proofs.Methods.{allow_from, served_within}
 use Rattle.gw_mux.proofs.routing.Mux.allow.Goals as goal
 

@@ -1,6 +1,6 @@
 use Rattle.std.proofs.Common.{◌≡◌, ◌≤◌, All, length}
 use Rattle.gw_pattern.specs.Pattern.{IsWellFormed, wildcard_count}
-use Rattle.gw_mux.proofs.tests.numbered_patterns.Given as goal
+use Rattle.gw_mux.proofs.tests.beside.numbered_patterns.Given as goal
 
 abbrev pub invariant-loop-i : goal.invariant-loop-i
 invariant-loop-i l = record {

@@ -1,6 +1,6 @@
 use Rattle.std.proofs.Common.{◌≡◌, ◌≤◌, All, length}
 use Rattle.gw_pattern.specs.Pattern.{IsWellFormed, wildcard_count}
-use Rattle.gw_mux.proofs.tests.patterns_of.Given as goal
+use Rattle.gw_mux.proofs.tests.answers.patterns_of.Given as goal
 
 abbrev pub invariant-loop-text : goal.invariant-loop-text
 invariant-loop-text l = record {
