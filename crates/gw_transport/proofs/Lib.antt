@@ -1,8 +1,12 @@
 mod CallLemmas
 mod DialLemmas
+mod DrawLemmas
 mod EndLemmas
+mod FillLemmas
+mod FrameLemmas
 mod GuardLemmas
 mod InboxLemmas
+mod InsideLemmas
 mod LeaseLemmas
 mod LinkLemmas
 mod RestLemmas

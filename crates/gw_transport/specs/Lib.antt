@@ -4,3 +4,6 @@ pub mod Parts
 pub mod Leasing
 pub mod Waits
 pub mod Inbox
+pub mod Drawing
+pub mod Outbox
+pub mod Filling

@@ -1,18 +1,27 @@
 //! Trips to backends: a connection for each attempt, and the attempts.
 #![tactic(auto)]
 
+mod drawing;
+mod framing;
 mod guard;
 mod inbox;
 mod leasing;
+mod outbox;
 mod waits;
 
+pub use drawing::{Pull, pull_piece};
 pub use guard::{Guard, Sight};
 pub use inbox::Inbox;
 pub use leasing::{Leased, close_expired, end_lease, lease};
+pub use outbox::Outbox;
 pub use waits::{
     Heard, Limit, Loss, Sent, Stop, Taken, read_some, read_within, write_all, write_within,
 };
 
+#[cfg(test)]
+mod draw_tests;
+#[cfg(test)]
+mod out_tests;
 #[cfg(test)]
 mod tests;
 #[cfg(test)]
