@@ -1,10 +1,14 @@
 mod AttemptLemmas
 mod CallLemmas
 mod DialLemmas
+mod DrawLemmas
 mod EndLemmas
 mod FailLemmas
+mod FillLemmas
+mod FrameLemmas
 mod GuardLemmas
 mod InboxLemmas
+mod InsideLemmas
 mod LeaseLemmas
 mod LinkLemmas
 mod RestLemmas

@@ -6,3 +6,6 @@ pub mod Attempts
 pub mod Watch
 pub mod Waits
 pub mod Inbox
+pub mod Drawing
+pub mod Outbox
+pub mod Filling

@@ -2,21 +2,30 @@
 #![tactic(auto)]
 
 mod attempts;
+mod drawing;
+mod framing;
 mod guard;
 mod inbox;
 mod leasing;
+mod outbox;
 mod waits;
 mod watch;
 
 pub use attempts::{Attempt, Attempted, Errand, Tried, make_trip};
+pub use drawing::{Pull, pull_piece};
 pub use guard::{Guard, Sight};
 pub use inbox::Inbox;
 pub use leasing::{Leased, close_expired, end_lease, lease};
+pub use outbox::Outbox;
 pub use waits::{
     Heard, Limit, Loss, Sent, Stop, Taken, read_some, read_within, write_all, write_within,
 };
 pub use watch::{Watch, first_deadline_is_least};
 
+#[cfg(test)]
+mod draw_tests;
+#[cfg(test)]
+mod out_tests;
 #[cfg(test)]
 mod tests;
 #[cfg(test)]
