@@ -7,9 +7,11 @@ mod GrammarEnd
 mod HeadLemmas
 mod LineLemmas
 mod MarkLemmas
+mod OriginLemmas
 mod PieceLemmas
 mod Plain
 mod ReadPlain
+mod ReadRequest
 mod ReaderLemmas
 mod Rows
 mod WholeLemmas

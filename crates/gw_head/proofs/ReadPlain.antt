@@ -53,7 +53,7 @@ passes : (bytes : List ℕ) → Passes bytes
 passes [] = record { front = []; same = refl }
 passes (b ∷ bytes) = passes_by (is_blank b) b bytes refl (passes bytes)
 
-shorter : (bytes : List ℕ) → length (skip_blanks bytes) ≤ length bytes
+pub shorter : (bytes : List ℕ) → length (skip_blanks bytes) ≤ length bytes
 shorter bytes =
     let has = passes bytes in
     let size = ap length has.same ∙ length-append has.front (skip_blanks bytes) in
@@ -99,7 +99,7 @@ fields_plain (field ∷ fields) all =
 
 -- ---- lengths
 
-small_by : (value : List ℕ) (values : List (List ℕ)) → are_bad_lengths (value ∷ values) ≡ false → digits_value 10 value < 2 ^ 63
+pub small_by : (value : List ℕ) (values : List (List ℕ)) → are_bad_lengths (value ∷ values) ≡ false → digits_value 10 value < 2 ^ 63
 small_by value values good =
     let is = not_true (is_length value) (or_left _ _ good) in
     ltb-true _ _ (and_parts _ _ (and_parts _ _ is).1).1

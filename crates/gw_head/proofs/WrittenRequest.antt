@@ -13,7 +13,7 @@ use Rattle.gw_head.specs.declared.error.HeadError.{HeadError}
 use Rattle.gw_head.specs.declared.error.HeadError.TheVariants.{Malformed, TooManyFields, Version, HostCount, BadLength, LengthAndCoding, Coding, BadEscape, Connect, Expectation}
 use Rattle.gw_head.specs.declared.request.RequestHead.{RequestHead}
 use Rattle.gw_head.specs.Checks.{first_fault, request_fault, lengths_of, codings_of, hosts_of, expectations_of, is_some_value, is_only_token, are_bad_lengths, is_wrong_count, is_bad_host, first_value, is_connect, has_bad_target, has_bad_coding, has_length_and_coding, has_bad_length, has_bad_host, has_bad_path, has_bad_expectation, has_other_request_version}
-use Rattle.gw_head.specs.Head.{framing_of, host_in, is_star, request_head_of, RequestHeadOf}
+use Rattle.gw_head.specs.Head.{lowered_fields, framing_of, host_in, is_star, request_head_of, RequestHeadOf}
 use Rattle.gw_head.specs.Lines.{begins_with_other_version, ends_with_other_version, first_line, without_return}
 use Rattle.gw_head.specs.Mark.{head_limit}
 use Rattle.gw_head.specs.Pieces.{before}
@@ -41,6 +41,12 @@ made method target lowered lengths codings hosts expectations = record {
   close = has_token (codes "connection") (codes "close") lowered;
 }
 
+pub head_by : (method target : List ℕ) (fields lowered : List (List ℕ × List ℕ)) (lengths codings hosts expectations : List (List ℕ))
+    → lowered_fields fields ≡ lowered → lengths_of fields ≡ lengths → codings_of fields ≡ codings
+    → hosts_of fields ≡ hosts → expectations_of fields ≡ expectations
+    → request_head_of method target 1 fields ≡ made method target lowered lengths codings hosts expectations
+head_by method target fields lowered lengths codings hosts expectations a b c d e = λ i. made method target (a i) (b i) (c i) (d i) (e i)
+
 pub head_same : (method target : List ℕ) (fields : List (List ℕ × List ℕ))
     → request_head_of method target 1 (map spelt fields) ≡ request_head_of method target 1 fields
 head_same method target fields =
@@ -65,7 +71,7 @@ failing method target lengths codings hosts expectations =
     ∷ (is_some_value expectations && not (is_only_token (codes "100-continue") expectations), Expectation)
     ∷ [])
 
-fault_by : (method target : List ℕ) (fields : List (List ℕ × List ℕ))
+pub fault_by : (method target : List ℕ) (fields : List (List ℕ × List ℕ))
     → request_fault method target 1 fields
     ≡ failing method target (lengths_of fields) (codings_of fields) (hosts_of fields) (expectations_of fields)
 unfolding has_bad_coding has_length_and_coding has_bad_length has_bad_host has_bad_expectation
@@ -165,8 +171,8 @@ reads : (method target : List ℕ) (fields : List (List ℕ × List ℕ)) → Is
 reads method target fields plain = (
   record {
     method = token_good method plain.verb;
-    target = plain.aim;
-    target_text = plain.words;
+    target = (plain.aim.some, plain.aim.bytes);
+    target_text = plain.aim.words;
     minor = omega arith;
     fields = lines_good fields plain.plain;
   },
@@ -183,7 +189,7 @@ request_written method target fields plain short =
     let has = reads method target fields plain in
     let printed : print_request parts ≡ text = sym (append-nil (print_request parts)) ∙ sym (text_is method target fields) in
     let count = request_lines text parts has ∙ length-map fields written in
-    let other = spoken_version method target fields token.0 token.1 plain.aim.1 in
+    let other = spoken_version method target fields token.0 token.1 plain.aim.bytes in
     let few = few_fields text (length fields) count plain.few in
     let same = fields_same fields plain.plain in
     record {

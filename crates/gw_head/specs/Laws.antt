@@ -3,9 +3,10 @@ use Rattle.std.specs.Prelude.{◌≡◌, ℕ, ◌≤◌, List, [], ◌++◌, len
 use Rattle.httparse.specs.Grammar.{RequestHead as RequestParts, print_request, ReadsRequest, ResponseHead as ReplyParts, print_response, ReadsResponse}
 use Rattle.gw_head.specs.declared.error.HeadError.{HeadError}
 use Rattle.gw_head.specs.declared.reply.ReplyHead.{ReplyHead}
+use Rattle.gw_head.specs.declared.request.RequestHead.{RequestHead}
 use Rattle.gw_head.specs.Head.{request_head_of, RequestHeadOf, BadRequestHead, reply_head_of, ReplyHeadOf, BadReplyHead}
 use Rattle.gw_head.specs.Mark.{head_end, head_limit}
-use Rattle.gw_head.specs.Written.{IsPlainReply, IsPlainRequest, IsWritableReply, reply_text, request_text}
+use Rattle.gw_head.specs.Written.{IsPlainReply, IsPlainRequest, IsWritableReply, IsWritableRequest, reply_text, request_text}
 
 -- a request's head of the grammar, whatever follows, ends with the end mark
 abbrev pub RequestEndsAtMark : Type 0
@@ -66,3 +67,6 @@ WrittenRequestIsRead =
 -- what is read can be written again
 abbrev pub ReadReplyIsWritable : Type 0
 ReadReplyIsWritable = (bytes : List ℕ) (head : ReplyHead) → ReplyHeadOf bytes head → IsWritableReply head
+
+abbrev pub ReadRequestIsWritable : Type 0
+ReadRequestIsWritable = (bytes : List ℕ) (head : RequestHead) → RequestHeadOf bytes head → IsWritableRequest head

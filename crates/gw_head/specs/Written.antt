@@ -7,8 +7,10 @@ use Rattle.http_header.specs.FieldName.{IsHeaderName}
 use Rattle.http_header.specs.FieldValue.{IsFieldValue}
 use Rattle.gw_fields.specs.Lists.{skip_blanks}
 use Rattle.gw_fields.specs.Order.{lines_of}
+use Rattle.gw_head.specs.declared.framing.Framing.TheVariants.{Length}
 use Rattle.gw_head.specs.declared.reply.ReplyHead.{ReplyHead}
-use Rattle.gw_head.specs.Checks.{has_bad_code, reply_fault, request_fault}
+use Rattle.gw_head.specs.declared.request.RequestHead.{RequestHead}
+use Rattle.gw_head.specs.Checks.{has_bad_code, is_bad_host, is_connect, reply_fault, request_fault}
 
 -- no blank stands at either end
 pub record IsBare (value : List ℕ) : Type 0 where
@@ -45,11 +47,16 @@ abbrev pub request_text : List ℕ → List ℕ → List (List ℕ × List ℕ) 
 request_text method target fields =
     (((method ++ codes " ") ++ target) ++ codes " HTTP/1.1\r\n") ++ (lines_of fields ++ codes "\r\n")
 
--- the same of a request's: a method is a token, and a target has no blank and no control byte
+-- a target that a request line can carry: text without blanks and control bytes
+pub record IsTarget (target : List ℕ) : Type 0 where
+  pub some : 0 < length target
+  pub bytes : AllPass is_uri_byte target
+  pub words : IsUtf8 target
+
+-- the same of a request's head; the method is a token
 pub record IsPlainRequest (method target : List ℕ) (fields : List (List ℕ × List ℕ)) : Type 0 where
   pub verb : IsToken method
-  pub aim : (0 < length target) × AllPass is_uri_byte target
-  pub words : IsUtf8 target
+  pub aim : IsTarget target
   pub plain : All IsPlainField fields
   pub few : length fields ≤ 128
   pub passes : request_fault method target 1 fields ≡ None
@@ -59,3 +66,11 @@ pub record IsWritableReply (head : ReplyHead) : Type 0 where
   pub plain : All IsPlainField head.fields
   pub coded : has_bad_code head.code ≡ false
   pub small : (n : ℕ) → head.length ≡ Some n → n < 2 ^ 63
+
+-- what a request's head says can be written again: its method, which is no CONNECT, its fields, its host and its length
+pub record IsWritableRequest (head : RequestHead) : Type 0 where
+  pub verb : IsToken head.method
+  pub tunnel : is_connect head.method ≡ false
+  pub plain : All IsPlainField head.fields
+  pub named : is_bad_host head.host ≡ false
+  pub small : (n : ℕ) → head.framing ≡ Length n → n < 2 ^ 63

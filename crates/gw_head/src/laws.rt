@@ -1,5 +1,5 @@
 //! Laws of the definitions, each the contract of a function that does nothing.
-ghost use Rattle.gw_head.specs.Laws.{RequestEndsAtMark, ReplyEndsAtMark, MarkStays, OneRequestAnswer, OneReplyAnswer, NoRequestBeginsAnother, NoReplyBeginsAnother, WrittenReplyIsRead, WrittenRequestIsRead, ReadReplyIsWritable};
+ghost use Rattle.gw_head.specs.Laws.{RequestEndsAtMark, ReplyEndsAtMark, MarkStays, OneRequestAnswer, OneReplyAnswer, NoRequestBeginsAnother, NoReplyBeginsAnother, WrittenReplyIsRead, WrittenRequestIsRead, ReadReplyIsWritable, ReadRequestIsWritable};
 
 /// A head that the grammar of `httparse` reads at the front of some bytes ends with the end mark of those bytes.
 pub fn grammar_ends_at_mark()
@@ -28,8 +28,10 @@ pub fn written_heads_are_read()
     ensures requests { WrittenRequestIsRead }
 {}
 
-/// What is read of a reply's head can be written again: its fields stand in lines as they are, its code has three
-/// digits, and its length is less than 2^63.
+/// What is read of a head can be written again. Its fields stand in lines as they are, and its length is less than
+/// 2^63; a reply's code has three digits, a request's method is a token other than CONNECT, and its host has visible
+/// bytes alone, of which none ends a host in a URI.
 pub fn read_heads_are_writable()
-    ensures { ReadReplyIsWritable }
+    ensures replies { ReadReplyIsWritable }
+    ensures requests { ReadRequestIsWritable }
 {}

@@ -1,10 +1,14 @@
+mod AddedLemmas
+mod Asked
 mod DateLemmas
 mod DateText
 mod FieldLemmas
 mod LineLemmas
 mod OwnLemmas
 mod PassedOn
+mod PeerLemmas
 mod ReplyLemmas
 mod Rows
 mod SortLemmas
+mod TargetLemmas
 mod ValueLemmas

@@ -1,5 +1,5 @@
 -- A backend's reply is read by the client with the code and the body that it came with.
-use Rattle.std.proofs.Common.{◌≡◌, ℕ, ◌^◌, ◌<◌, ◌≤◌, Bool, true, false, not, ◌||◌, List, [], ◌∷◌, ◌++◌, length, refl, ap, subst, ◌∙◌, arith}
+use Rattle.std.proofs.Common.{◌≡◌, ℕ, ◌^◌, ◌<◌, ◌≤◌, Bool, true, false, not, ◌||◌, List, [], ◌++◌, length, refl, ap, subst, ◌∙◌, arith}
 use Rattle.std.specs.Prelude.{All, codes, decimal, Option, Some, None, if◌then◌else◌, ◌==◌}
 use Rattle.std.specs.List.{list_any}
 use Rattle.std.specs.Str.{str_eq_ignore_ascii_case}
@@ -10,7 +10,6 @@ use Rattle.gw_fields.specs.Lines.{has_field}
 use Rattle.gw_head.specs.declared.framing.Framing.{Framing}
 use Rattle.gw_head.specs.declared.framing.Framing.TheVariants.{None as NoBody, Length, Chunked, ToEnd}
 use Rattle.gw_head.specs.declared.reply.ReplyHead.{ReplyHead}
-use Rattle.gw_head.specs.Fields.{values_named}
 use Rattle.gw_head.specs.Head.{ReplyHeadOf}
 use Rattle.gw_head.specs.Mark.{head_limit}
 use Rattle.gw_head.specs.Written.{IsPlainField, IsWritableReply}
@@ -20,9 +19,10 @@ use Rattle.gw_proxy.specs.Lines.{coding_fields, is_in_chunks, length_fields}
 use Rattle.gw_proxy.specs.OutReply.{close_fields, date_fields, is_head, out_reply_of, reply_fields, reply_kept, reply_length, sent_framing_of}
 use Rattle.gw_proxy.specs.Date.{IsDateAt}
 use Rattle.gw_proxy.specs.Read.{ReadsAsReply}
+use Rattle.gw_proxy.proofs.AddedLemmas.{coded_values, if_any, length_all, one_other, said_values, small_number, unless_any}
 use Rattle.gw_proxy.proofs.DateText.{date_fits}
 use Rattle.gw_proxy.proofs.FieldLemmas.{IsOther, Pair, closes_plain, listed_behind, no_hops, not_any, plain, values_ahead, values_behind}
-use Rattle.gw_proxy.proofs.ReplyLemmas.{Agrees, IsSent, IsSmall, Says, coded_as, said_framing, sent_reply, texts_of}
+use Rattle.gw_proxy.proofs.ReplyLemmas.{Agrees, IsSent, IsSmall, Says, said_framing, sent_reply}
 use Rattle.gw_proxy.proofs.ValueLemmas.{IsFit, marks_fit, number_fits, visible_marks}
 
 -- the connection's own fields, the codings and the lengths are gone
@@ -43,23 +43,6 @@ is_kept reply =
 
 -- ---- what is added
 
-one_other : (name other value : List ℕ) → str_eq_ignore_ascii_case other name ≡ false → All (IsOther name) ((other, value) ∷ [])
-one_other name other value differs =
-    All-cons (IsOther name) (other, value) [] (record { other = differs }) (All-nil (IsOther name))
-
-if_any : (P : Pair → Type 0) (v : Bool) (field : Pair) → All P (field ∷ []) → All P (if v then field ∷ [] else [])
-if_any P true field all = all
-if_any P false field all = All-nil P
-
-unless_any : (P : Pair → Type 0) (v : Bool) (field : Pair) → All P (field ∷ []) → All P (if v then [] else field ∷ [])
-unless_any P true field all = All-nil P
-unless_any P false field all = all
-
-length_all : (P : Pair → Type 0) (said : Option ℕ) → ((n : ℕ) → said ≡ Some n → All P ((codes "content-length", decimal n) ∷ []))
-    → All P (length_fields said)
-length_all P None all = All-nil P
-length_all P (Some n) all = all n refl
-
 -- of a name that none of these has
 others : (name : List ℕ) (said : Option ℕ) (sent : Framing) (close : Bool) (date : List ℕ) (kept : List Pair)
     → All (IsOther name) kept → str_eq_ignore_ascii_case (codes "date") name ≡ false
@@ -67,15 +50,6 @@ others : (name : List ℕ) (said : Option ℕ) (sent : Framing) (close : Bool) (
 others name said sent close date kept all differs =
     All-append (IsOther name) kept (date_fields date kept) all
     (unless_any (IsOther name) (has_field (codes "date") kept) (codes "date", date) (one_other name (codes "date") date differs))
-
-said_values : (said : Option ℕ) → values_named (codes "content-length") (length_fields said) ≡ texts_of said
-said_values None = refl
-said_values (Some n) = refl
-
-coded_values : (v : Bool)
-    → values_named (codes "transfer-encoding") (if v then (codes "transfer-encoding", codes "chunked") ∷ [] else []) ≡ coded_as v
-coded_values true = refl
-coded_values false = refl
 
 close_values : (close : Bool) → list_any (names_token (codes "connection") (codes "close")) (close_fields close) ≡ close
 close_values true = refl
@@ -114,10 +88,6 @@ says reply said sent close date =
           (All-append (IsOther c) front (length_fields said) (with c is.connection refl) (number c refl)) (coding c refl))
           ∙ close_values close;
     }
-
-small_number : (said : Option ℕ) (n : ℕ) → IsSmall said → said ≡ Some n → n < 2 ^ 64
-small_number None n small is = absurd (cc)
-small_number (Some m) n small is = let same : m ≡ n = cc in omega arith
 
 fields_plain : (reply : ReplyHead) (said : Option ℕ) (sent : Framing) (close : Bool) (date : List ℕ) → All IsPlainField reply.fields
     → IsSmall said → IsFit date

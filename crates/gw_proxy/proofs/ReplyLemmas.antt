@@ -52,7 +52,7 @@ abbrev pub said_framing : List ℕ → ℕ → Option ℕ → Bool → Framing
 said_framing method code said chunks =
     if is_head method || is_bodiless code then NoBody else (if chunks then Chunked else counted_framing said)
 
-same_bytes : (bytes : List ℕ) → bytes_eq bytes bytes ≡ true
+pub same_bytes : (bytes : List ℕ) → bytes_eq bytes bytes ≡ true
 same_bytes bytes = (bytes_eq-Decides bytes bytes).1 refl
 
 passes : (old : Bool) (code : ℕ) (said : Option ℕ) (chunks : Bool) → has_bad_code code ≡ false → Agrees said chunks old

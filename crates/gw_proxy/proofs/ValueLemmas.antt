@@ -31,12 +31,12 @@ pub record IsMark (b : ℕ) : Type 0 where
   pub other : is_blank b ≡ false
   pub good : IsTrue (is_value_byte b)
 
-mark : (b : ℕ) → 32 < b → b < 127 → IsMark b
+pub mark : (b : ℕ) → 32 < b → b < 127 → IsMark b
 mark b low high = record { other = grind (arith, nat_tests); good = grind (arith, nat_tests) }
 
 -- ---- no blank at the ends
 
-skip_mark : (b : ℕ) (rest : List ℕ) → IsMark b → skip_blanks (b ∷ rest) ≡ b ∷ rest
+pub skip_mark : (b : ℕ) (rest : List ℕ) → IsMark b → skip_blanks (b ∷ rest) ≡ b ∷ rest
 skip_mark b rest is = ap (λ (v : Bool). if v then skip_blanks rest else b ∷ rest) is.other
 
 skip_run : (run rest : List ℕ) → 0 < length run → All IsMark run → skip_blanks (run ++ rest) ≡ run ++ rest
@@ -48,6 +48,14 @@ all_reverse [] all = all
 all_reverse (b ∷ run) all =
     subst (All IsMark) (sym (reverse-append (b ∷ []) run))
     (All-push IsMark (reverse run) b (all_reverse run (All-tail IsMark b run all)) (All-head IsMark b run all))
+
+-- a text that ends in marks has no blank at its end
+pub back_by : (value before last : List ℕ) → value ≡ before ++ last → 0 < length last → All IsMark last
+    → skip_blanks (reverse value) ≡ reverse value
+back_by value before last ends any stops =
+    let turned = ap reverse ends ∙ reverse-append before last in
+    let enough : 0 < length (reverse last) = let same = length-reverse last in omega arith in
+    ap skip_blanks turned ∙ skip_run (reverse last) (reverse before) enough (all_reverse last stops) ∙ sym turned
 
 -- marks stand first and last
 pub record HasEnds (value : List ℕ) : Type 0 where
@@ -65,9 +73,7 @@ pub record HasEnds (value : List ℕ) : Type 0 where
 pub bare_by : (value : List ℕ) → HasEnds value → IsBare value
 bare_by value has = record {
   front = ap skip_blanks has.begins ∙ skip_run has.first has.behind has.some has.marks ∙ sym has.begins;
-  back = let turned = ap reverse has.ends ∙ reverse-append has.before has.last in
-      let enough : 0 < length (reverse has.last) = let same = length-reverse has.last in let some = has.any in omega arith in
-      ap skip_blanks turned ∙ skip_run (reverse has.last) (reverse has.before) enough (all_reverse has.last has.stops) ∙ sym turned;
+  back = back_by value has.before has.last has.ends has.any has.stops;
 }
 
 pub all_value : (run : List ℕ) → All IsMark run → IsFieldValue run

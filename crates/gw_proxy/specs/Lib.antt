@@ -1,3 +1,4 @@
+pub mod Asked
 pub mod Date
 pub mod Laws
 pub mod Lines

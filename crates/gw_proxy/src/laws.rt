@@ -1,4 +1,5 @@
 //! Laws of what is sent. Each is a function with an empty body, whose `ensures` is the law.
+ghost use Rattle.gw_proxy.specs.Asked.{PassedRequestsAreRead};
 ghost use Rattle.gw_proxy.specs.Laws.{OneDate};
 ghost use Rattle.gw_proxy.specs.Read.{OwnRepliesAreRead, PassedRepliesAreRead};
 
@@ -18,4 +19,12 @@ pub fn own_replies_are_read()
 /// the link closes, and announces the body as it is sent on, where it has at most 65,536 bytes and 128 fields.
 pub fn passed_replies_are_read()
     ensures { PassedRepliesAreRead }
+{}
+
+/// The head of a request that is passed on is read by the backend as it was asked: with the same method, the host that
+/// it had or else the address, the path behind the base, the same query and the same framing. It is of HTTP/1.1,
+/// expects nothing and doesn't close the link. What went into it can stand in a head, and it has at most 65,536 bytes
+/// and 128 fields.
+pub fn passed_requests_are_read()
+    ensures { PassedRequestsAreRead }
 {}

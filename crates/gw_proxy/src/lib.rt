@@ -13,7 +13,9 @@ mod status;
 mod target;
 
 pub use error::NoMemory;
-pub use laws::{one_date_at_a_moment, own_replies_are_read, passed_replies_are_read};
+pub use laws::{
+    one_date_at_a_moment, own_replies_are_read, passed_replies_are_read, passed_requests_are_read,
+};
 pub use own::{Own, own_reply};
 pub use reply::{out_reply_head, sent_framing};
 pub use request::{OutHead, out_request};
