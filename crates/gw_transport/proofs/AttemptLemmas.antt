@@ -82,7 +82,7 @@ vain_map : (errand : ErrandView) (want : ℕ) (row : ConnRow) (P Q : ConnRow →
 vain_map errand want row P Q f =
     let way = Clearing errand.host (Leases errand.host errand.backend want row) in
     seq_map (Tries errand want row (P row)) (Ends false row.conn) (Tries errand want row (Q row)) (Ends false row.conn)
-        (seq_map way (P row) way (Q row) (λ a w q. q) f) (λ a w q. q)
+    (seq_map way (P row) way (Q row) (λ a w q. q) f) (λ a w q. q)
 
 -- the rule permits seven attempts more
 below_eight : (why : Failure) (reused : Bool) (method : List ℕ) (key : Bool) (body : BodyKind) (n : ℕ) → may_retry_of why reused method key body n ≡ true → n < 8
@@ -116,7 +116,7 @@ pub again_ready : {M : Type 0} (Ready : M → Type 0) (body : M → BodyKind) (m
 again_ready Ready body mid to why errand reused n same again go =
     let kind : is_repeatable errand.body ≡ true =
     (and_parts (is_repeatable errand.body) (is_passing why (only_reads errand.method || errand.has_key))
-        (and_parts (reused && nat_lt (n + 1) 8) (is_repeatable errand.body && is_passing why (only_reads errand.method || errand.has_key)) go).1).0 in
+    (and_parts (reused && nat_lt (n + 1) 8) (is_repeatable errand.body && is_passing why (only_reads errand.method || errand.has_key)) go).1).0 in
     (again.1 (ap is_repeatable same ∙ kind), again.0 ∙ same)
 
 -- a lease stays one whose connection was used

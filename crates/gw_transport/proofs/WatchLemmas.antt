@@ -211,5 +211,5 @@ look_goes old new node words mid later own g h grace noted noting moment le a ga
       last = (let m = a.last in omega arith);
       seen = (let m = a.last in omega arith);
       cancels = (let x = more_found own words.view.ended mid.view.ended steps.found.0 steps.found.1 in
-      let y = more_found own mid.view.ended later.view.ended learns.ended.0 learns.ended.1 in omega arith);
+          let y = more_found own mid.view.ended later.view.ended learns.ended.0 learns.ended.1 in omega arith);
     }

@@ -30,6 +30,7 @@ pub enum Tried<R, E> {
 /// body can be sent once more. What no attempt changes of an implementer is its `keeper`.
 pub trait Attempt<W: Wire, G: Guard> {
     type Reply;
+
     type End;
 
     ghost Meaning: { Type 0 };
@@ -130,7 +131,14 @@ fn make_attempts<W: Wire, L: Leases<W::Conn>, G: Guard, A: Attempt<W, G>>(
             }
             Tried::Failed(why) => {
                 end_lease(wire, leases, got, false);
-                if !may_retry(why, reused, errand.method, errand.has_key, errand.body, made + 1) {
+                if !may_retry(
+                    why,
+                    reused,
+                    errand.method,
+                    errand.has_key,
+                    errand.body,
+                    made + 1,
+                ) {
                     return Attempted::Failed(why);
                 }
             }

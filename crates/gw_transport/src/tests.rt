@@ -263,6 +263,7 @@ impl Attempt<MemWire, Alarm> for Scripted {
     ghost use Rattle.gw_account.specs.Work.{Idle};
 
     type Reply = ();
+
     type End = ();
 
     ghost Meaning = { BodyKind };
@@ -279,7 +280,12 @@ impl Attempt<MemWire, Alarm> for Scripted {
 
     ghost Does = { λ from to link tried late. Idle };
 
-    fn attempt(&mut self, _wire: &mut MemWire, _conn: &mut MemConn, _guard: &mut Alarm) -> Tried<(), ()> {
+    fn attempt(
+        &mut self,
+        _wire: &mut MemWire,
+        _conn: &mut MemConn,
+        _guard: &mut Alarm,
+    ) -> Tried<(), ()> {
         let play = match self.plays.get(self.made) {
             Some(play) => *play,
             None => Play::Gone,
@@ -375,7 +381,13 @@ fn closed_before_reply(rt: HostRuntime) -> Result<(), Fail> {
         );
     }
     assert_eq!(rt;
-        over_a_kept_one(alloc, &Method::POST, false, BodyKind::Rewindable, Play::ServerClosed)?,
+        over_a_kept_one(
+            alloc,
+            &Method::POST,
+            false,
+            BodyKind::Rewindable,
+            Play::ServerClosed
+        )?,
         (Ended::Failed(Failure::ServerClosed), 1)
     );
     Ok(())

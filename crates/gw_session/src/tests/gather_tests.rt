@@ -152,7 +152,10 @@ fn first_unlost(alloc: Global, framing: Framing, text: &[u8]) -> Result<Option<u
 fn lost_inside(rt: HostRuntime) -> Result<(), Fail> {
     let alloc = rt.alloc();
     assert_eq!(rt; first_unlost(alloc, Framing::Length(5), b"hello")?, None);
-    assert_eq!(rt; first_unlost(alloc, Framing::Chunked, b"5\r\nhello\r\n0\r\n\r\n")?, None);
+    assert_eq!(rt;
+        first_unlost(alloc, Framing::Chunked, b"5\r\nhello\r\n0\r\n\r\n")?,
+        None
+    );
     Ok(())
 }
 
@@ -201,8 +204,14 @@ fn bad_chunks(rt: HostRuntime) -> Result<(), Fail> {
     let alloc = rt.alloc();
     assert_eq!(rt; first_other(alloc, b"x\r\n", ChunkError::BadLine)?, None);
     assert_eq!(rt; first_other(alloc, b"1\r\naXY", ChunkError::DataEnd)?, None);
-    assert_eq!(rt; first_other(alloc, b"1000000000000\r\n", ChunkError::TooLarge)?, None);
-    assert_eq!(rt; first_other(alloc, b"0\r\nT 1\r\n\r\n", ChunkError::Trailer)?, None);
+    assert_eq!(rt;
+        first_other(alloc, b"1000000000000\r\n", ChunkError::TooLarge)?,
+        None
+    );
+    assert_eq!(rt;
+        first_other(alloc, b"0\r\nT 1\r\n\r\n", ChunkError::Trailer)?,
+        None
+    );
     Ok(())
 }
 

@@ -43,12 +43,12 @@ fn first_wrong_path(
 }
 
 const ITEMS: [Row; 5] = [
-        ("/items/latest", "route 1 /items/latest\n"),
-        ("/items/7", "route 0 /items/{id}\nid=7\n"),
-        ("/items/7?a", "route 0 /items/{id}\nid=7\n"),
-        ("/items/%41b", "route 0 /items/{id}\nid=%41b\n"),
-        ("/other", "not found\n"),
-    ];
+    ("/items/latest", "route 1 /items/latest\n"),
+    ("/items/7", "route 0 /items/{id}\nid=7\n"),
+    ("/items/7?a", "route 0 /items/{id}\nid=7\n"),
+    ("/items/%41b", "route 0 /items/{id}\nid=%41b\n"),
+    ("/other", "not found\n"),
+];
 
 #[test]
 fn precedence(rt: HostRuntime) -> Result<(), Fail> {
@@ -64,11 +64,11 @@ fn precedence(rt: HostRuntime) -> Result<(), Fail> {
 }
 
 const ENDS: [Row; 4] = [
-        ("/b/", "route 0 /b/{$}\n"),
-        ("/b/c", "route 1 /b/\n"),
-        ("/b", "redirect /b/\n"),
-        ("/b//c?x=1", "redirect /b/c?x=1\n"),
-    ];
+    ("/b/", "route 0 /b/{$}\n"),
+    ("/b/c", "route 1 /b/\n"),
+    ("/b", "redirect /b/\n"),
+    ("/b//c?x=1", "redirect /b/c?x=1\n"),
+];
 
 #[test]
 fn end_mark_and_rest(rt: HostRuntime) -> Result<(), Fail> {
@@ -113,7 +113,15 @@ fn conflict_is_named(rt: HostRuntime) -> Result<(), Fail> {
     let conflict = file_of(alloc, &["/posts/{id}", "/{resource}/latest"])?;
     let good = file_of(alloc, &["/items/{id}", "/items/latest"])?;
     let check = ["check", "f"];
-    assert!(rt; ends(alloc, &check, conflict.as_str(), 5, "conflict: route 0 and route 1\n")?);
+    assert!(rt;
+        ends(
+            alloc,
+            &check,
+            conflict.as_str(),
+            5,
+            "conflict: route 0 and route 1\n"
+        )?
+    );
     assert!(rt; ends(alloc, &check, good.as_str(), 0, "ok: 2 routes\n")?);
     Ok(())
 }
@@ -135,8 +143,10 @@ fn unprinted(rt: HostRuntime) -> Result<(), Fail> {
 
 // Whether `check` and `route` name the fault of a file.
 fn names(alloc: Global, file: &str, text: &str) -> Result<bool, Fail> {
-    Ok(ends(alloc, &["check", "f"], file, 4, text)?
-        && ends(alloc, &["route", "f", "GET", "", "/"], file, 4, text)?)
+    Ok(
+        ends(alloc, &["check", "f"], file, 4, text)?
+            && ends(alloc, &["route", "f", "GET", "", "/"], file, 4, text)?,
+    )
 }
 
 #[test]

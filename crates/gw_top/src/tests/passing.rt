@@ -82,10 +82,17 @@ fn is_passed<R: Threads + Wait + Sync>(
     file: &str,
     row: &Exchange,
 ) -> Result<bool, Fail> {
-    let (client, backend) =
-        traded(rt, alloc, file, row.request.as_bytes(), row.reply.as_bytes())?;
-    Ok(client.as_slice() == row.to_client.as_bytes()
-        && backend.as_slice() == row.to_backend.as_bytes())
+    let (client, backend) = traded(
+        rt,
+        alloc,
+        file,
+        row.request.as_bytes(),
+        row.reply.as_bytes(),
+    )?;
+    Ok(
+        client.as_slice() == row.to_client.as_bytes()
+            && backend.as_slice() == row.to_backend.as_bytes(),
+    )
 }
 
 // The name of the first exchange that goes otherwise.
@@ -277,6 +284,9 @@ fn hosts_and_backends(rt: HostRuntime) -> Result<(), Fail> {
     let file =
         b"{\"listen\":\"127.0.0.1:8080\",\"routes\":[{\"pattern\":\"/\",\"backend\":\"http://127.0.0.1:9000\"},{\"pattern\":\"b.example/\",\"backend\":\"http://127.0.0.1:9001\"}]}";
     assert_eq!(rt; passed_to(&rt, alloc, file, "a.example")?, (0, 0, 9_000, 0));
-    assert_eq!(rt; passed_to(&rt, alloc, file, "b.example:80")?, (0, 1, 9_001, 1));
+    assert_eq!(rt;
+        passed_to(&rt, alloc, file, "b.example:80")?,
+        (0, 1, 9_001, 1)
+    );
     Ok(())
 }

@@ -30,26 +30,29 @@ fn first_wrong<R: Threads + Wait + Sync>(
 }
 
 const UNROUTED: [Row; 3] = [
-        (
-            "GET /a//b/../c?x=1",
-            "HTTP/1.1 301 Moved Permanently\r\nContent-Length: 0\r\nDate: Sun, 06 Nov 1994 08:49:37 GMT\r\nLocation: /a/c?x=1\r\n\r\n",
-        ),
-        (
-            "GET /q",
-            "HTTP/1.1 404 Not Found\r\nContent-Length: 14\r\nDate: Sun, 06 Nov 1994 08:49:37 GMT\r\n\r\n404 Not Found\n",
-        ),
-        (
-            "HEAD /q",
-            "HTTP/1.1 404 Not Found\r\nContent-Length: 14\r\nDate: Sun, 06 Nov 1994 08:49:37 GMT\r\n\r\n",
-        ),
-    ];
+    (
+        "GET /a//b/../c?x=1",
+        "HTTP/1.1 301 Moved Permanently\r\nContent-Length: 0\r\nDate: Sun, 06 Nov 1994 08:49:37 GMT\r\nLocation: /a/c?x=1\r\n\r\n",
+    ),
+    (
+        "GET /q",
+        "HTTP/1.1 404 Not Found\r\nContent-Length: 14\r\nDate: Sun, 06 Nov 1994 08:49:37 GMT\r\n\r\n404 Not Found\n",
+    ),
+    (
+        "HEAD /q",
+        "HTTP/1.1 404 Not Found\r\nContent-Length: 14\r\nDate: Sun, 06 Nov 1994 08:49:37 GMT\r\n\r\n",
+    ),
+];
 
 #[test]
 fn cleaning_redirects(rt: HostRuntime) -> Result<(), Fail> {
     let alloc = rt.alloc();
     let file = file_of(alloc, &["/zzz"])?;
     let back = b" HTTP/1.1\r\nHost: a:80\r\n\r\n";
-    assert_eq!(rt; first_wrong(&rt, alloc, file.as_str(), &UNROUTED, back)?, None);
+    assert_eq!(rt;
+        first_wrong(&rt, alloc, file.as_str(), &UNROUTED, back)?,
+        None
+    );
     Ok(())
 }
 
@@ -60,34 +63,37 @@ const CODING: &str =
     "HTTP/1.1 501 Not Implemented\r\nConnection: close\r\nContent-Length: 20\r\nDate: Sun, 06 Nov 1994 08:49:37 GMT\r\n\r\n501 Not Implemented\n";
 
 const REFUSED: [Row; 8] = [
-        (
-            "POST / HTTP/1.1\r\nHost: a\r\nContent-Length: 3\r\nTransfer-Encoding: chunked\r\n\r\nGET / HTTP/1.1\r\nHost: a\r\n\r\n",
-            BAD,
-        ),
-        ("GET / HTTP/1.1\r\n\r\n", BAD),
-        ("GET /%zz HTTP/1.1\r\nHost: a\r\n\r\n", BAD),
-        ("GET /\r\nHost: a\r\n\r\n", BAD),
-        ("CONNECT a:1 HTTP/1.1\r\nHost: a\r\n\r\n", CODING),
-        (
-            "GET / HTTP/1.1\r\nHost: a\r\nTransfer-Encoding: gzip\r\n\r\n",
-            CODING,
-        ),
-        (
-            "GET / HTTP/1.1\r\nHost: a\r\nExpect: gift\r\n\r\n",
-            "HTTP/1.1 417 Expectation Failed\r\nConnection: close\r\nContent-Length: 23\r\nDate: Sun, 06 Nov 1994 08:49:37 GMT\r\n\r\n417 Expectation Failed\n",
-        ),
-        (
-            "GET / HTTP/2.0\r\nHost: a\r\n\r\n",
-            "HTTP/1.1 505 HTTP Version Not Supported\r\nConnection: close\r\nContent-Length: 31\r\nDate: Sun, 06 Nov 1994 08:49:37 GMT\r\n\r\n505 HTTP Version Not Supported\n",
-        ),
-    ];
+    (
+        "POST / HTTP/1.1\r\nHost: a\r\nContent-Length: 3\r\nTransfer-Encoding: chunked\r\n\r\nGET / HTTP/1.1\r\nHost: a\r\n\r\n",
+        BAD,
+    ),
+    ("GET / HTTP/1.1\r\n\r\n", BAD),
+    ("GET /%zz HTTP/1.1\r\nHost: a\r\n\r\n", BAD),
+    ("GET /\r\nHost: a\r\n\r\n", BAD),
+    ("CONNECT a:1 HTTP/1.1\r\nHost: a\r\n\r\n", CODING),
+    (
+        "GET / HTTP/1.1\r\nHost: a\r\nTransfer-Encoding: gzip\r\n\r\n",
+        CODING,
+    ),
+    (
+        "GET / HTTP/1.1\r\nHost: a\r\nExpect: gift\r\n\r\n",
+        "HTTP/1.1 417 Expectation Failed\r\nConnection: close\r\nContent-Length: 23\r\nDate: Sun, 06 Nov 1994 08:49:37 GMT\r\n\r\n417 Expectation Failed\n",
+    ),
+    (
+        "GET / HTTP/2.0\r\nHost: a\r\n\r\n",
+        "HTTP/1.1 505 HTTP Version Not Supported\r\nConnection: close\r\nContent-Length: 31\r\nDate: Sun, 06 Nov 1994 08:49:37 GMT\r\n\r\n505 HTTP Version Not Supported\n",
+    ),
+];
 
 /// A head that fails a check gets the reply of its code.
 #[test]
 fn length_and_coding(rt: HostRuntime) -> Result<(), Fail> {
     let alloc = rt.alloc();
     let file = file_of(alloc, &["/"])?;
-    assert_eq!(rt; first_wrong(&rt, alloc, file.as_str(), &REFUSED, b"")?, None);
+    assert_eq!(rt;
+        first_wrong(&rt, alloc, file.as_str(), &REFUSED, b"")?,
+        None
+    );
     Ok(())
 }
 

@@ -5,9 +5,8 @@ ghost use Rattle.gw_wire.specs.World.{IsAlone};
 ghost use Rattle.gw_wire.specs.Memory.{wire_view};
 
 use super::{
-    AcceptEvent, Act, Call, DialEvent, Entry, MemWire, Moment, NOW, Offer, PASSED_REPLY,
-    PeerText, REPLY, Reply, Script, file_of, run_gateway, sends, sends_all, words, world,
-    written_to,
+    AcceptEvent, Act, Call, DialEvent, Entry, MemWire, Moment, NOW, Offer, PASSED_REPLY, PeerText,
+    REPLY, Reply, Script, file_of, run_gateway, sends, sends_all, words, world, written_to,
 };
 use std::alloc::{AllocError, Global};
 use std::sync::Wait;
@@ -114,8 +113,7 @@ fn links_of<R: Threads + Wait + Sync>(
     replies: &[&[u8]],
 ) -> Result<(Vec<u64>, Vec<u64>, bool), Fail> {
     let file = file_of(alloc, &["/"])?;
-    let requests =
-        b"GET /1 HTTP/1.1\r\nHost: a\r\n\r\nGET /2 HTTP/1.1\r\nHost: a\r\n\r\n";
+    let requests = b"GET /1 HTTP/1.1\r\nHost: a\r\n\r\nGET /2 HTTP/1.1\r\nHost: a\r\n\r\n";
     let mut world = world(alloc, file.as_bytes(), wire_to(alloc, requests, replies)?)?;
     let words = words(alloc, &["serve", "routes.json"])?;
     let report = run_gateway(rt, alloc, words.as_slice(), &mut world);
@@ -134,25 +132,25 @@ fn links_of<R: Threads + Wait + Sync>(
 type Reused = (&'static str, &'static [u64]);
 
 const REUSED: [Reused; 9] = [
-        ("HTTP/1.1 200 OK\r\nContent-Length: 2\r\n\r\nok", &[2]),
-        ("HTTP/1.1 204 No Content\r\n\r\n", &[2]),
-        (
-            "HTTP/1.1 200 OK\r\nTransfer-Encoding: chunked\r\n\r\n2\r\nok\r\n0\r\n\r\n",
-            &[2],
-        ),
-        ("HTTP/1.1 404 Not Found\r\nContent-Length: 0\r\n\r\n", &[2]),
-        (
-            "HTTP/1.1 200 OK\r\nConnection: Close\r\nContent-Length: 2\r\n\r\nok",
-            &[2, 3],
-        ),
-        ("HTTP/1.0 200 OK\r\nContent-Length: 2\r\n\r\nok", &[2, 3]),
-        ("HTTP/1.1 200 OK\r\nContent-Length: 2\r\n\r\nokX", &[2, 3]),
-        (
-            "HTTP/1.1 200 OK\r\nTransfer-Encoding: chunked\r\n\r\n2\r\nokX\r\n0\r\n\r\n",
-            &[2, 3],
-        ),
-        ("HTTP/1.1 100 Continue\r\n\r\n", &[2, 3]),
-    ];
+    ("HTTP/1.1 200 OK\r\nContent-Length: 2\r\n\r\nok", &[2]),
+    ("HTTP/1.1 204 No Content\r\n\r\n", &[2]),
+    (
+        "HTTP/1.1 200 OK\r\nTransfer-Encoding: chunked\r\n\r\n2\r\nok\r\n0\r\n\r\n",
+        &[2],
+    ),
+    ("HTTP/1.1 404 Not Found\r\nContent-Length: 0\r\n\r\n", &[2]),
+    (
+        "HTTP/1.1 200 OK\r\nConnection: Close\r\nContent-Length: 2\r\n\r\nok",
+        &[2, 3],
+    ),
+    ("HTTP/1.0 200 OK\r\nContent-Length: 2\r\n\r\nok", &[2, 3]),
+    ("HTTP/1.1 200 OK\r\nContent-Length: 2\r\n\r\nokX", &[2, 3]),
+    (
+        "HTTP/1.1 200 OK\r\nTransfer-Encoding: chunked\r\n\r\n2\r\nokX\r\n0\r\n\r\n",
+        &[2, 3],
+    ),
+    ("HTTP/1.1 100 Continue\r\n\r\n", &[2, 3]),
+];
 
 fn first_wrong<R: Threads + Wait + Sync>(
     rt: &R,
@@ -184,7 +182,11 @@ fn is_closed_at_once<R: Threads + Wait + Sync>(
     reply: &str,
 ) -> Result<bool, Fail> {
     let (dialed, closed, replied) = links_of(rt, alloc, &[reply.as_bytes()])?;
-    Ok(replied && dialed.as_slice() == [2, 3].as_slice() && closed.as_slice() == [2, 1, 3].as_slice())
+    Ok(
+        replied
+            && dialed.as_slice() == [2, 3].as_slice()
+            && closed.as_slice() == [2, 1, 3].as_slice(),
+    )
 }
 
 /// A connection whose reply goes up to the link's end, or that fails, is closed, and the next request dials.
@@ -193,7 +195,11 @@ fn ended_connections_are_closed(rt: HostRuntime) -> Result<(), Fail> {
     let alloc = rt.alloc();
     assert!(rt; is_closed_at_once(&rt, alloc, "HTTP/1.1 200 OK\r\n\r\nhello")?);
     assert!(rt;
-        is_closed_at_once(&rt, alloc, "HTTP/1.1 200 OK\r\nContent-Length: 10\r\n\r\n1234")?
+        is_closed_at_once(
+            &rt,
+            alloc,
+            "HTTP/1.1 200 OK\r\nContent-Length: 10\r\n\r\n1234"
+        )?
     );
     assert!(rt; is_closed_at_once(&rt, alloc, "HTTP/1.1 20")?);
     Ok(())
