@@ -1,6 +1,7 @@
 -- The search for the best pattern, step by step.
-use Rattle.std.proofs.Common.{◌≡◌, ◌≢◌, ◌↔◌, ℕ, ◌+◌, ◌<◌, List, [], ◌∷◌, length, eqb, Option, Some, None, MatchOption, ◌⊎◌, inl, inr, ⊎_elim, sym, refl, subst, arith, below_more}
+use Rattle.std.proofs.Common.{◌≡◌, ◌≢◌, ◌↔◌, ℕ, ◌+◌, ◌<◌, ◌==◌, Bool, true, List, [], ◌∷◌, length, eqb, Option, Some, None, MatchOption, ◌⊎◌, inl, inr, ⊎_elim, sym, refl, subst, ◌∙◌, arith, below_more}
 use Rattle.std.proofs.lemmas.Bool.{cases_Bool, eqb-true, eqb-false}
+use Rattle.std.proofs.lemmas.Bool.Decides.{nat_tests}
 use Rattle.gw_pattern.specs.declared.form.Pattern.{Pattern}
 use Rattle.gw_sets.specs.Shape.{Asked}
 use Rattle.gw_sets.specs.Matches.{HostMatches}
@@ -77,6 +78,18 @@ best_of_free patterns a (Some i) none h = (
       (λ t. h.2 j (take_within patterns a [] j t.0) (take_free patterns a [] j t.0) ne)
       c,
 )
+
+pub no_bytes : (xs : List ℕ) (b : Bool) → b ≡ (length xs == 0) → b ≡ true → xs ≡ []
+no_bytes [] b e h = refl
+no_bytes (x ∷ xs) b e h = let some : (length (x ∷ xs) == 0) ≡ true = sym e ∙ h in absurd (grind (arith, nat_tests))
+
+-- where no host is asked for, those without a host are the request's own
+pub none_of_own : (patterns : List Pattern) (a : Asked) → a.host ≡ [] → IsChosen patterns a (length patterns) None → IsAnswered patterns a None
+none_of_own patterns a e none =
+    λ i c. ⊎_elim
+    (λ t. none i (take_within patterns a a.host i t) t)
+    (λ t. none i (take_within patterns a [] i t.0) (subst (λ host. DoesTake patterns a host i) (sym e) t.0))
+    c
 
 -- ---- the best
 

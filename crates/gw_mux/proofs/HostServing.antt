@@ -48,7 +48,7 @@ module _ (patterns : List Pattern) (host order roots : List ℕ) (parts : List (
       (λ i r. let m = matched_of true i r in (m.0, m.1, m.2, inr (refl, m.3)))
       h k
 
-host_cases : (own host : List ℕ) → HostMatches own host → (own ≡ host) ⊎ (own ≡ [])
+pub host_cases : (own host : List ℕ) → HostMatches own host → (own ≡ host) ⊎ (own ≡ [])
 host_cases [] host h = inr refl
 host_cases (b ∷ own) host h = inl (sym h)
 
@@ -70,3 +70,13 @@ module _ (patterns : List Pattern) (host path body : List ℕ) (slash : Bool) (s
     λ s. let d = from_served s.0 host path body slash seen s.2 in
         ⊎_elim (λ e. k.kept i (h.added i (s.0, s.1, e, d.1))) (λ e. k.added i (s.0, s.1, e, d.1)) (host_cases s.0.host host d.0),
   )
+
+  -- where no host is asked for, those without a host are the request's own
+  pub own_served : (old new : List ℕ) → old ≡ [] → host ≡ [] → IsAdded (Serves patterns host (segments_in body) slash) old new → (i : ℕ) → Contains new i ↔ IsServed patterns host path i
+  own_served old new e none h =
+      all_served old new new e h
+      (record {
+        within = λ i c. inl c;
+        kept = λ i c. c;
+        added = λ i s. h.added i (subst (λ own. Serves patterns own (segments_in body) slash i) (sym none) s);
+      })

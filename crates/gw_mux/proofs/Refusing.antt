@@ -16,6 +16,7 @@ use Rattle.gw_mux.specs.Decision.{DoesTake, HasExactBest, HasNoBest, IsBest, IsC
 use Rattle.gw_mux.specs.Laws.{NamesMethod}
 use Rattle.gw_mux.specs.Request.{asked_for, is_exact, segments_of, sent_segments}
 use Rattle.gw_mux.specs.Table.{AreProper, HasNoConflict, IsAt}
+use Rattle.gw_mux.proofs.HostServing.{host_cases}
 use Rattle.gw_mux.proofs.Lawful.{best_there}
 use Rattle.gw_mux.proofs.Paths.{ends_push, sent_push}
 use Rattle.gw_mux.proofs.Shapes.{shape_asked}
@@ -24,10 +25,6 @@ use Rattle.gw_mux.proofs.Shapes.{shape_asked}
 
 abbrev asked : List ℕ → List ℕ → List (List ℕ) → Bool → Asked
 asked method host parts slash = record { method = method; host = host; segs = parts; slash = slash }
-
-taken_by : (own host : List ℕ) → HostMatches own host → (own ≡ host) ⊎ (own ≡ [])
-taken_by [] host h = inr refl
-taken_by (b ∷ own) host h = inl (sym h)
 
 module _ (patterns : List Pattern) (proper : AreProper patterns) (apart : HasNoConflict patterns) where
   no_candidate : (a : Asked) → IsShape a → HasNoBest patterns a → (i : ℕ) → IsCandidate patterns a i → ⊥
@@ -46,7 +43,7 @@ module _ (patterns : List Pattern) (proper : AreProper patterns) (apart : HasNoC
   no_service a shape none i p at free host segs =
       let m : MethodMatches p.method a.method = subst (λ o. MethodMatches o a.method) (sym free) tt in
       no_take a shape none i
-      (⊎_elim (λ e. inl (p, at, e, (m, host, segs))) (λ e. inr (p, at, e, (m, host, segs))) (taken_by p.host a.host host))
+      (⊎_elim (λ e. inl (p, at, e, (m, host, segs))) (λ e. inr (p, at, e, (m, host, segs))) (host_cases p.host a.host host))
 
   -- ---- the path with a slash more
 

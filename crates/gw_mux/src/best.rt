@@ -30,6 +30,7 @@ pub(crate) fn best(
 {
     match best_with_host(patterns, order, method, host, path) {
         Some(best) => Some(best),
+        None if host.is_empty() => None,
         None => best_with_host(patterns, order, method, &[], path),
     }
 }

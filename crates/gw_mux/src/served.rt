@@ -40,6 +40,9 @@ pub(crate) fn served(
     };
     let mut found = Vec::new(alloc);
     add_of_host(&mut found, patterns, order, host, sent)?;
+    if host.is_empty() {
+        return Ok(found);
+    }
     add_of_host(&mut found, patterns, order, &[], sent)?;
     Ok(found)
 }
