@@ -18,9 +18,10 @@ use Rattle.gw_routes.specs.declared.table.Action.TheVariants.{Backend}
 use Rattle.gw_routes.specs.declared.table.Route.{Route}
 use Rattle.gw_routes.specs.declared.table.Table.{Table}
 use Rattle.gw_routes.specs.Kinds.{Said, ◌>>=◌, fault, or_fault, json_said, list_said, whole_of, in_range, number_of, number_said}
+use Rattle.gw_routes.specs.declared.names.ObjectKind.TheVariants.{File}
 use Rattle.gw_routes.specs.Names.{names_said}
 use Rattle.gw_routes.specs.Routes.{RouteList, RouteText, IsWithin, leads_to, is_same, host_at, hosts_at, host_of, route_said, with_route, routes_from, count_of, no_routes, items_said, routes_said}
-use Rattle.gw_routes.specs.Files.{TopText, IsTableOf, AreNumbered, listen_said, pool_said, workers_bounds, journal_bounds, top_said, file_said}
+use Rattle.gw_routes.specs.Files.{TopText, IsTableOf, AreNumbered, HasWorkers, listen_said, pool_said, workers_bounds, journal_bounds, top_said, file_said}
 
 -- what is said in two steps is said in the first, and then in the second
 then_ok : {A B : Type 0} (s : Said A) (f : A → Said B) (y : B) → s >>= f ≡ Ok y → (x : A) × (s ≡ Ok x) × (f x ≡ Ok y)
@@ -137,7 +138,7 @@ record IsGood (t : TopText) : Type 0 where
 good_top : (d : Data) (t : TopText) → top_said d ≡ Ok t → IsGood t
 unfolding top_said
 good_top d t e =
-    let a = then_ok (names_said None d) _ t e in
+    let a = then_ok (names_said File None d) _ t e in
     let b = then_ok (listen_said d) _ t a.2 in
     let c = then_ok (number_said (codes "workers") workers_bounds None d) _ t b.2 in
     let p = then_ok (pool_said d) _ t c.2 in
@@ -162,9 +163,6 @@ numbered t table good is =
       few = rw is.routes full.few;
       paired = sym (length-map table.mux spelled_of) ∙ ap length is.patterns ∙ full.listed.paired ∙ ap length (sym is.routes);
       hosts = subst R (sym is.routes) (subst H (sym is.hosts) full.listed.hosts);
-      least = rw is.workers good.least;
-      most = rw is.workers good.most;
-      passes = ap (λ l. l.passes) is.limits ∙ sym is.workers;
       one = ap (λ l. l.per_pass) is.limits;
       pooled = ap (λ l. l.hosts) is.limits ∙ ap length (sym is.hosts);
     }
@@ -172,3 +170,14 @@ numbered t table good is =
 pub numbers_of : (bytes : List ℕ) (t : TopText) (refused : RouteError → Type 0) (result : Result Table RouteError) → file_said bytes ≡ Ok t → MatchResult result (IsTableOf t) refused → IfOk result AreNumbered
 numbers_of bytes t refused (Ok table) e is = numbered t table (good_file bytes t e) is
 numbers_of bytes t refused (Err error) e is = tt
+
+worked : (t : TopText) (table : Table) → IsGood t → IsTableOf t table → HasWorkers table
+worked t table good is = record {
+  least = rw is.workers good.least;
+  most = rw is.workers good.most;
+  passes = ap (λ l. l.passes) is.limits ∙ sym is.workers;
+}
+
+pub workers_of : (bytes : List ℕ) (t : TopText) (refused : RouteError → Type 0) (result : Result Table RouteError) → file_said bytes ≡ Ok t → MatchResult result (IsTableOf t) refused → IfOk result HasWorkers
+workers_of bytes t refused (Ok table) e is = worked t table (good_file bytes t e) is
+workers_of bytes t refused (Err error) e is = tt

@@ -15,6 +15,7 @@ use Rattle.gw_routes.specs.declared.table.Table.{Table}
 use Rattle.gw_routes.specs.declared.top.Top.{Top}
 use Rattle.gw_routes.specs.Addresses.{address_of}
 use Rattle.gw_routes.specs.Kinds.{Said, ◌>>=◌, or_fault, json_said, text_said, number_said}
+use Rattle.gw_routes.specs.declared.names.ObjectKind.TheVariants.{File}
 use Rattle.gw_routes.specs.Names.{names_said}
 use Rattle.gw_routes.specs.Routes.{IsWithin, RouteList, route_list, routes_said}
 
@@ -66,7 +67,7 @@ pool_said d = do
 
 unfoldable pub top_said : Data → Said TopText
 top_said d = do
-  known ← names_said None d
+  known ← names_said File None d
   listen ← listen_said d
   workers ← number_said (codes "workers") workers_bounds None d
   pool ← pool_said d
@@ -129,14 +130,17 @@ RefusesTop top (Conflict first second) = IsFirstConflict top.routes.patterns.ite
 RefusesTop top NoMemory = Unit {0}
 
 -- what the numbers of a table tell: its routes have the numbers of its patterns, their hosts are the table's, and the
--- pool has a pass for each worker and each of the hosts
+-- pool has each of the hosts
 pub record AreNumbered (table : Table) : Type 0 where
   pub some : 0 < length table.routes.items
   pub few : length table.routes.items ≤ 1024
   pub paired : length table.mux ≡ length table.routes.items
   pub hosts : All (λ r. IsWithin (length table.hosts.items) r.action) table.routes.items
+  pub one : table.limits.per_pass ≡ 1
+  pub pooled : table.limits.hosts ≡ length table.hosts.items
+
+-- how many workers a table has, and a pass of the pool for each
+pub record HasWorkers (table : Table) : Type 0 where
   pub least : 1 ≤ table.workers
   pub most : table.workers ≤ 1
   pub passes : table.limits.passes ≡ table.workers
-  pub one : table.limits.per_pass ≡ 1
-  pub pooled : table.limits.hosts ≡ length table.hosts.items

@@ -1,5 +1,6 @@
 pub mod Addresses
 pub mod Codes
+pub mod Hosts
 pub mod Kinds
 pub mod Names
 pub mod Files

@@ -2,6 +2,8 @@
 use Rattle.std.specs.Prelude.{ℕ, Bool, true, ◌&&◌, ◌||◌, if◌then◌else◌, List, Option, Some, None, Ok, codes, bytes_eq, ⊤}
 use Rattle.serde_json.specs.Data.{Data, Members, no_members, member}
 use Rattle.serde_json.specs.Find.{as_object}
+use Rattle.gw_routes.specs.declared.names.ObjectKind.{ObjectKind}
+use Rattle.gw_routes.specs.declared.names.ObjectKind.TheVariants.{File, BackendRoute}
 use Rattle.gw_routes.specs.declared.fault.GCode.TheVariants.{UnknownName, WrongKind}
 use Rattle.gw_routes.specs.Kinds.{Said, ◌>>=◌, fault, or_fault}
 
@@ -15,24 +17,24 @@ abbrev pub is_top_name : List ℕ → Bool
 is_top_name name =
     bytes_eq name (codes "listen") || bytes_eq name (codes "workers") || is_pool_name name || bytes_eq name (codes "journal") || bytes_eq name (codes "routes")
 
--- in a route
-abbrev pub is_route_name : List ℕ → Bool
-is_route_name name = bytes_eq name (codes "pattern") || bytes_eq name (codes "backend")
+-- in a route with a backend
+abbrev pub is_backend_name : List ℕ → Bool
+is_backend_name name = bytes_eq name (codes "pattern") || bytes_eq name (codes "backend")
 
--- at the top, or in the route of a number
-unfoldable pub is_known : Option ℕ → List ℕ → Bool
-is_known None name = is_top_name name
-is_known (Some i) name = is_route_name name
+-- in an object of that kind
+unfoldable pub is_known : ObjectKind → List ℕ → Bool
+is_known File name = is_top_name name
+is_known BackendRoute name = is_backend_name name
 
-abbrev pub are_known : Option ℕ → Members → Bool
-are_known route no_members = true
-are_known route (member name d ms) = is_known route name && are_known route ms
+abbrev pub are_known : ObjectKind → Members → Bool
+are_known kind no_members = true
+are_known kind (member name d ms) = is_known kind name && are_known kind ms
 
-unfoldable pub members_said : Option ℕ → Members → Said ⊤
-members_said route ms = if are_known route ms then Ok tt else fault UnknownName route
+unfoldable pub members_said : ObjectKind → Option ℕ → Members → Said ⊤
+members_said kind route ms = if are_known kind ms then Ok tt else fault UnknownName route
 
 -- it is an object, and each of its names is known
-unfoldable pub names_said : Option ℕ → Data → Said ⊤
-names_said route d = do
+unfoldable pub names_said : ObjectKind → Option ℕ → Data → Said ⊤
+names_said kind route d = do
   ms ← or_fault WrongKind route (as_object d)
-  members_said route ms
+  members_said kind route ms

@@ -17,6 +17,7 @@ use Rattle.gw_routes.specs.declared.route.Written.{Written}
 use Rattle.gw_routes.specs.declared.placing.Placed.{Placed}
 use Rattle.gw_routes.specs.Addresses.{address_of}
 use Rattle.gw_routes.specs.Kinds.{Said, ◌>>=◌, fault, or_fault, text_said, list_said}
+use Rattle.gw_routes.specs.declared.names.ObjectKind.TheVariants.{BackendRoute}
 use Rattle.gw_routes.specs.Names.{names_said}
 
 -- ---- one route
@@ -79,7 +80,7 @@ pub record RouteText : Type 0 where
 
 unfoldable pub route_said : ℕ → Data → Said RouteText
 route_said i d = do
-  known ← names_said (Some i) d
+  known ← names_said BackendRoute (Some i) d
   text ← text_said (codes "pattern") (Some i) d
   pattern ← route_pattern i text
   backend ← text_said (codes "backend") (Some i) d
@@ -119,7 +120,7 @@ pub record RouteList : Type 0 where
   pub patterns : List Spelled
 
 abbrev pub route_list : Placed → RouteList
-route_list p = record { hosts = p.hosts.items; routes = p.routes.items; patterns = map spelled_of p.patterns.items }
+route_list p = record { hosts = p.hosts; routes = p.routes.items; patterns = map spelled_of p.patterns.items }
 
 abbrev pub leads_to : List ℕ → ℕ → List ℕ → Route
 leads_to text host base = record { text = text; action = Backend host base }

@@ -3,6 +3,7 @@
 
 mod address;
 mod fault;
+mod hosts;
 mod kinds;
 mod laws;
 mod names;

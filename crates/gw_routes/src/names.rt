@@ -7,6 +7,15 @@ ghost use Rattle.gw_routes.specs.Names.{is_known, is_pool_name, is_top_name, mem
 use crate::fault::{GCode, RouteError};
 use serde_json::{Map, Value};
 
+/// What an object of a route file is, which says what names it may have.
+#[derive(Clone, Copy)]
+pub(crate) enum ObjectKind {
+    /// The whole file.
+    File,
+    /// A route whose requests go to a backend.
+    BackendRoute,
+}
+
 fn is_pool_name(name: &str) -> bool
     ensures { result ≡ is_pool_name name.now }
 {
@@ -24,34 +33,43 @@ fn is_top_name(name: &str) -> bool
 }
 
 #[tactic(auto, unfolding(crate::specs::Names::is_known))]
-fn is_known(route: Option<u32>, name: &str) -> bool
-    ensures { result ≡ is_known route name.now }
+fn is_known(kind: ObjectKind, name: &str) -> bool
+    ensures { result ≡ is_known kind name.now }
 {
-    match route {
-        None => is_top_name(name),
-        Some(_) => name == "pattern" || name == "backend",
+    match kind {
+        ObjectKind::File => is_top_name(name),
+        ObjectKind::BackendRoute => name == "pattern" || name == "backend",
     }
 }
 
 #[tactic(auto, unfolding(crate::specs::Names::members_said))]
-fn check_members(members: &Map<String, Value>, route: Option<u32>) -> Result<(), RouteError>
-    ensures { Gives (λ u. u) result (members_said route (members_view members.now.entries)) }
+fn check_members(
+    members: &Map<String, Value>,
+    kind: ObjectKind,
+    route: Option<u32>,
+) -> Result<(), RouteError>
+    ensures { Gives (λ u. u) result (members_said kind route (members_view members.now.entries)) }
 {
     for (name, _) in members.iter() {
-        if !is_known(route, name.as_str()) {
+        if !is_known(kind, name.as_str()) {
             return Err(RouteError::bad(GCode::UnknownName, route));
         }
     }
     Ok(())
 }
 
-/// The value is an object, and each of its names is known: at the top, or in the route of a number.
+/// The value is an object of this kind: each of its names is known. A fault is that of the route of this number, or of
+/// the file.
 #[tactic(auto, unfolding(crate::specs::Names::names_said))]
-pub(crate) fn check_names(value: &Value, route: Option<u32>) -> Result<(), RouteError>
-    ensures { Gives (λ u. u) result (names_said route (view value.now)) }
+pub(crate) fn check_names(
+    value: &Value,
+    kind: ObjectKind,
+    route: Option<u32>,
+) -> Result<(), RouteError>
+    ensures { Gives (λ u. u) result (names_said kind route (view value.now)) }
 {
     match value.as_object() {
-        Some(members) => check_members(members, route),
+        Some(members) => check_members(members, kind, route),
         None => Err(RouteError::bad(GCode::WrongKind, route)),
     }
 }

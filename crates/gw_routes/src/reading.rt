@@ -1,7 +1,7 @@
 //! From a file to its table.
 ghost use Rattle.std.specs.Prelude.{◌≡◌, ◌≤◌, IfOk, MatchResult, length};
 ghost use Rattle.gw_mux.specs.Table.{ArePatterns};
-ghost use Rattle.gw_routes.specs.Files.{AreNumbered, IsTableOf, Reads, Refuses, RefusesTop, limits_with, pool_text, top_text};
+ghost use Rattle.gw_routes.specs.Files.{AreNumbered, HasWorkers, IsTableOf, Reads, Refuses, RefusesTop, limits_with, pool_text, top_text};
 
 use crate::fault::RouteError;
 use crate::placing::Placed;
@@ -25,6 +25,7 @@ use std::alloc::Global;
 pub fn read_routes(alloc: Global, bytes: &[u8]) -> Result<Table, RouteError>
     ensures table { MatchResult result (Reads bytes.now) (Refuses bytes.now) }
     ensures numbers { IfOk result AreNumbered }
+    ensures workers { IfOk result HasWorkers }
 {
     match read_file(alloc, bytes) {
         Ok(top) => table_of(alloc, top),
@@ -34,7 +35,7 @@ pub fn read_routes(alloc: Global, bytes: &[u8]) -> Result<Table, RouteError>
 
 fn table_of(alloc: Global, top: Top) -> Result<Table, RouteError>
     requires patterns { ArePatterns top.routes.patterns.items }
-    requires hosts { length top.routes.hosts.items ≤ 1024 }
+    requires hosts { length top.routes.hosts ≤ 1024 }
     ensures { MatchResult result (IsTableOf (top_text top)) (RefusesTop top) }
 {
     let Top {
@@ -55,7 +56,7 @@ fn table_of(alloc: Global, top: Top) -> Result<Table, RouteError>
             listen,
             workers,
             limits,
-            hosts,
+            hosts: hosts.into_addresses(),
             routes,
             mux,
         }),

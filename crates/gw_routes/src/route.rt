@@ -9,7 +9,7 @@ ghost use Rattle.gw_routes.specs.Routes.{backend_in, backend_of, backend_said, i
 use crate::address::address_in;
 use crate::fault::{GCode, RouteError};
 use crate::kinds::text_at;
-use crate::names::check_names;
+use crate::names::{ObjectKind, check_names};
 use gw_pattern::{Pattern, PatternError, parse};
 use gw_wire::{Addr, Bytes};
 use serde_json::Value;
@@ -31,7 +31,7 @@ pub(crate) fn read_route(alloc: Global, value: &Value, number: u32) -> Result<Wr
     ensures well_formed { IfOk result (λ w. IsWellFormed w.pattern) }
     ensures wildcards { IfOk result (λ w. wildcard_count w.pattern.segs.items ≤ 16) }
 {
-    check_names(value, Some(number))?;
+    check_names(value, ObjectKind::BackendRoute, Some(number))?;
     let text = text_at(value, "pattern", Some(number))?;
     let pattern = read_pattern(alloc, text, number)?;
     let (backend, base) = read_backend(text_at(value, "backend", Some(number))?, number)?;

@@ -8,7 +8,7 @@ ghost use Rattle.gw_routes.specs.Kinds.{Gives};
 use crate::address::address_in;
 use crate::fault::{GCode, RouteError};
 use crate::kinds::{Bounds, number_at, read_value, text_at};
-use crate::names::check_names;
+use crate::names::{ObjectKind, check_names};
 use crate::placing::{Placed, read_all};
 use crate::pool_limits::{PoolLimits, read_pool};
 use gw_wire::Addr;
@@ -40,9 +40,9 @@ fn read_listen(file: &Value) -> Result<Addr, RouteError>
 fn read_top(alloc: Global, file: &Value) -> Result<Top, RouteError>
     ensures top { Gives top_text result (top_said (view file.now)) }
     ensures patterns { IfOk result (λ t. ArePatterns t.routes.patterns.items) }
-    ensures hosts { IfOk result (λ t. length t.routes.hosts.items ≤ 1024) }
+    ensures hosts { IfOk result (λ t. length t.routes.hosts ≤ 1024) }
 {
-    check_names(file, None)?;
+    check_names(file, ObjectKind::File, None)?;
     let listen = read_listen(file)?;
     let workers = Bounds {
         least: 1,
@@ -72,7 +72,7 @@ fn read_top(alloc: Global, file: &Value) -> Result<Top, RouteError>
 pub(crate) fn read_file(alloc: Global, bytes: &[u8]) -> Result<Top, RouteError>
     ensures top { Gives top_text result (file_said bytes.now) }
     ensures patterns { IfOk result (λ t. ArePatterns t.routes.patterns.items) }
-    ensures hosts { IfOk result (λ t. length t.routes.hosts.items ≤ 1024) }
+    ensures hosts { IfOk result (λ t. length t.routes.hosts ≤ 1024) }
 {
     let value = read_value(alloc, bytes)?;
     read_top(alloc, &value)

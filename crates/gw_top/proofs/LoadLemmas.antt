@@ -8,7 +8,7 @@ use Rattle.gw_pattern.specs.declared.fault.PCode.{PCode}
 use Rattle.gw_routes.specs.declared.fault.GCode.{GCode}
 use Rattle.gw_routes.specs.declared.fault.RouteError.TheVariants.{Bad, Conflict}
 use Rattle.gw_routes.specs.declared.table.Table.{Table}
-use Rattle.gw_routes.specs.Files.{AreNumbered, Reads, Refuses as RefusesFile}
+use Rattle.gw_routes.specs.Files.{AreNumbered, HasWorkers, Reads, Refuses as RefusesFile}
 use Rattle.gw_top.specs.Lines.{unreadable_line, memory_line, bad_line, conflict_line}
 use Rattle.gw_top.specs.Load.{Says, SaysOr7, NoTable, Loads}
 use Rattle.gw_top.proofs.TopLemmas.{world_then, prints_then, prints_quiet, printed_by}
@@ -54,7 +54,7 @@ conflicting_done old mid new name file text first second status l p h same r (in
 
 -- there is one
 pub table_done : (old mid : WorldView) (name file text : List ℕ) (table : Table) → WorldLater old mid → Logs old.printed mid.printed []
-    → Holds old.files name file → text ≡ file → Reads text table → AreNumbered table → Loads old mid name (Ok table)
-table_done old mid name file text table l p h same r n =
+    → Holds old.files name file → text ≡ file → Reads text table → AreNumbered table → HasWorkers table → Loads old mid name (Ok table)
+table_done old mid name file text table l p h same r n w =
     let P : List ℕ → Type 0 = λ t. Reads t table in
-    (l, p, record { bytes = file; holds = h; reads = subst P same r; numbered = n })
+    (l, p, record { bytes = file; holds = h; reads = subst P same r; numbered = n; workers = w })

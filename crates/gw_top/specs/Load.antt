@@ -8,7 +8,7 @@ use Rattle.gw_routes.specs.declared.fault.GCode.{GCode}
 use Rattle.gw_routes.specs.declared.fault.RouteError.{RouteError}
 use Rattle.gw_routes.specs.declared.fault.RouteError.TheVariants.{Bad, Conflict}
 use Rattle.gw_routes.specs.declared.table.Table.{Table}
-use Rattle.gw_routes.specs.Files.{AreNumbered, Reads, Refuses as RefusesFile}
+use Rattle.gw_routes.specs.Files.{AreNumbered, HasWorkers, Reads, Refuses as RefusesFile}
 use Rattle.gw_top.specs.Lines.{unreadable_line, memory_line, bad_line, conflict_line}
 
 -- a line was printed and nothing else, unless a print failed
@@ -26,6 +26,7 @@ pub record SaysTable (old : WorldView) (name : List ℕ) (table : Table) : Type 
   pub holds : Holds old.files name bytes
   pub reads : Reads bytes table
   pub numbered : AreNumbered table
+  pub workers : HasWorkers table
 
 -- the file of that name is, where files are told, refused for this
 pub record RefusesNamed (old : WorldView) (name : List ℕ) (error : RouteError) : Type 0 where

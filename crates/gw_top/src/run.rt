@@ -4,7 +4,7 @@ ghost use Rattle.std.specs.Prelude.{◌≡◌, ◌<◌, [], ◌∷◌, Some, Non
 ghost use Rattle.gw_wire.specs.declared.values.Act.TheVariants.{Closed as ClosedAct};
 ghost use Rattle.gw_wire.specs.Stretch.{Told, Acts};
 ghost use Rattle.gw_wire.specs.Wire.{Later};
-ghost use Rattle.gw_routes.specs.Files.{AreNumbered};
+ghost use Rattle.gw_routes.specs.Files.{AreNumbered, HasWorkers};
 ghost use Rattle.gw_top.specs.Lines.{unheard_line};
 ghost use Rattle.gw_top.specs.Status.{Ran, Ends, Refuses, RefusesOr7, Finished, IsReady};
 
@@ -65,7 +65,8 @@ pub fn run_gateway<R: Threads + Wait + Sync, H: World>(
 
 /// Reserves what a run over a table needs.
 fn prepare<W: Wire>(alloc: Global, table: Table) -> Result<Setup<W>, AllocError>
-    requires { AreNumbered table }
+    requires numbered { AreNumbered table }
+    requires workers { HasWorkers table }
     ensures ready { IfOk result (λ setup. IsReady setup) }
     ensures serves { IfOk result (λ setup. setup.table ≡ table) }
 {

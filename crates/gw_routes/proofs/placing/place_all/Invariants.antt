@@ -8,7 +8,7 @@ use Rattle.gw_routes.proofs.placing.place_all.Given as goal
 abbrev pub invariant-loop-i : goal.invariant-loop-i
 invariant-loop-i l =
     (routes_from l.i (route_list l.placed) (items_view (drop l.i l.values)) ≡ routes_from 0 no_routes (items_view l.values))
-    × (length l.placed.hosts.items ≤ l.i)
+    × (length l.placed.hosts ≤ l.i)
     × (length l.placed.patterns.items ≡ l.i)
     × All IsWellFormed l.placed.patterns.items
     × All (λ p. wildcard_count p.segs.items ≤ 16) l.placed.patterns.items

@@ -5,11 +5,11 @@ use Rattle.gw_top.proofs.run.prepare.Goals as goal
 pub returns-clause-ready : goal.returns-clause-ready
 returns-clause-ready g c =
     let made = c.in_ok-pool.ensures in
-    let alone : c.args.table.limits.passes ≡ 1 = (let p = c.requires.passes in let l = c.requires.least in let m = c.requires.most in omega arith) in
+    let alone : c.args.table.limits.passes ≡ 1 = (let p = c.requires.workers.passes in let l = c.requires.workers.least in let m = c.requires.workers.most in omega arith) in
     record {
-      numbered = c.requires;
+      numbered = c.requires.numbered;
       limits = made.limits;
-      rested = rested_opened c.in_ok-pool.pool c.args.table.limits made.seen made.out made.number made.limits alone (let o = c.requires.one in omega arith) made.running;
+      rested = rested_opened c.in_ok-pool.pool c.args.table.limits made.seen made.out made.number made.limits alone (let o = c.requires.numbered.one in omega arith) made.running;
       seen = made.seen;
       mine = made.mine;
       nobody = c.in_ok-with_capacity.ensures.items;
