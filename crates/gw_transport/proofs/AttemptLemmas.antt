@@ -23,7 +23,7 @@ use Rattle.gw_transport.specs.declared.attempts.Attempted.TheVariants as attempt
 use Rattle.gw_transport.specs.declared.attempts.Tried.{Tried}
 use Rattle.gw_transport.specs.declared.attempts.Tried.TheVariants as tried
 use Rattle.gw_transport.specs.declared.leasing.Leased.TheVariants as leased
-use Rattle.gw_transport.specs.Attempts.{AttemptStep, AttemptedBy, AttemptedCause, AttemptedStep, BegunBy, Behind, ErrandView, FailureCause, FailedOnce, Misses, Retries, Tries, TriesInVain, may_go_on}
+use Rattle.gw_transport.specs.Attempts.{AttemptStep, AttemptedBy, AttemptedCause, AttemptedStep, Behind, ErrandView, FailureCause, FailedOnce, Misses, Retries, Tries, TriesInVain, TripStep, may_go_on}
 use Rattle.gw_transport.specs.Guard.{GuardView, IsDue}
 use Rattle.gw_transport.specs.Leasing.{Clearing, EndStep, ExpiredStep, IsLate, IsLeased, IsRested, Lateness, LeasedBy, LeasedStep}
 use Rattle.gw_transport.specs.Parts.{Anywhere, Ends, Expires, IsRefused, Leases, Sees, Unreached}
@@ -277,12 +277,17 @@ sees_expires at a w s = expires_of at a w s.0 s.1 s.2 s.3 s.4
 
 pub trip_made : {C R E : Type 0} (link : C → LinkView) (old x y z : WireView) (a b c : Lent) (f g : GuardView) (does : Lateness → At → Work → Type 0) (result : Attempted C R E) (now : ℕ)
     → f.last ≤ old.moment → NowStep old x now → ExpiredStep (span x y a b) now → AttemptedStep link (span y z b c) f g does result
-    → AttemptedStep link (span old z a c) f g (BegunBy does) result
+    → TripStep link (span old z a c) f g does result
 trip_made link old x y z a b c f g does result now le n e s =
     let first = part_map (part_then (part_now old x a now n) e.did) (sees_expires now) in
     record {
-      late = s.late;
-      did = stretch_map (stretch_then (stretch_part f le first) s.did) (λ q w both. (now, both));
-      cause = s.cause;
-      left = s.left;
+      at = now;
+      begun = (let m = n.later.moment in let g = n.given in omega arith);
+      within = (let m = e.did.doing.wired.later.moment in let k = s.did.doing.wired.later.moment in let g = n.given in omega arith);
+      step = record {
+        late = s.late;
+        did = stretch_then (stretch_part f le first) s.did;
+        cause = s.cause;
+        left = s.left;
+      };
     }

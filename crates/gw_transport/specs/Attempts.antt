@@ -1,5 +1,5 @@
 -- The attempts of a trip, whatever one attempt does: `Does` is the fact on its stretch of work.
-use Rattle.std.specs.Prelude.{ℕ, zero, suc, ◌≡◌, ◌<◌, ◌⊎◌, Bool, true, false, List}
+use Rattle.std.specs.Prelude.{ℕ, zero, suc, ◌≡◌, ◌≤◌, ◌<◌, ◌⊎◌, Bool, true, false, List}
 use Rattle.gw_wire.specs.declared.values.Addr.{Addr}
 use Rattle.gw_wire.specs.Causes.{Rose}
 use Rattle.gw_wire.specs.Link.{LinkView}
@@ -136,6 +136,9 @@ pub record AttemptedStep {C R E : Type 0} (link : C → LinkView) (s : Span) (fr
   pub cause : AttemptedCause from to s.new.moment late result
   pub left : LeftOut link s.after result
 
--- a trip begins with one look for a connection that is due
-abbrev pub BegunBy : (Lateness → At → Work → Type 0) → Lateness → At → Work → Type 0
-BegunBy does late a w = (at : ℕ) × Seq (Expires at) (does late) a w
+-- a trip begins with one look for a connection that is due, at a moment that is read in it
+pub record TripStep {C R E : Type 0} (link : C → LinkView) (s : Span) (from to : GuardView) (does : Lateness → At → Work → Type 0) (result : Attempted C R E) : Type 0 where
+  pub at : ℕ
+  pub begun : s.old.moment ≤ at
+  pub within : at ≤ s.new.moment
+  pub step : AttemptedStep link s from to (λ late. Seq (Expires at) (does late)) result

@@ -5,7 +5,7 @@ ghost use Rattle.gw_retry.specs.declared.BodyKind.{BodyKind};
 ghost use Rattle.gw_account.specs.Did.{span};
 ghost use Rattle.gw_account.specs.Work.{At, Work};
 ghost use Rattle.gw_transport.specs.declared.attempts.Tried.{Tried};
-ghost use Rattle.gw_transport.specs.Attempts.{AttemptStep, AttemptedBy, AttemptedStep, BegunBy, IsReadyAgain, errand_of};
+ghost use Rattle.gw_transport.specs.Attempts.{AttemptStep, AttemptedBy, AttemptedStep, IsReadyAgain, TripStep, errand_of};
 ghost use Rattle.gw_transport.specs.Leasing.{IsRested, Lateness};
 
 use crate::guard::Guard;
@@ -163,8 +163,8 @@ pub fn make_trip<W: Wire, L: Leases<W::Conn>, G: Guard, A: Attempt<W, G>>(
     requires within { errand.now.host < (L.lent leases.old).limits.hosts }
     requires ready { A.Ready (A.meaning attempt.old) }
     requires body { A.body (A.meaning attempt.old) ≡ errand.now.body }
-    ensures step { AttemptedStep W.Conn.link (span (W.wire wire.old) (W.wire wire.new) (L.lent leases.old) (L.lent leases.new)) (G.guard guard.old) (G.guard guard.new)
-        (BegunBy (AttemptedBy A.Does (errand_of errand.now) (A.meaning attempt.old) (A.meaning attempt.new) result)) result }
+    ensures step { TripStep W.Conn.link (span (W.wire wire.old) (W.wire wire.new) (L.lent leases.old) (L.lent leases.new)) (G.guard guard.old) (G.guard guard.new)
+        (AttemptedBy A.Does (errand_of errand.now) (A.meaning attempt.old) (A.meaning attempt.new) result) result }
     ensures leases { L.keeper leases.new ≡ L.keeper leases.old }
     ensures guard { G.keeper guard.new ≡ G.keeper guard.old }
     ensures attempt { A.keeper attempt.new ≡ A.keeper attempt.old }
