@@ -6,7 +6,7 @@ use Rattle.gw_wire.specs.Wire.{WireView}
 use Rattle.gw_wire.specs.World.{WorldView, WorldLater, ListensNow}
 use Rattle.gw_pool.specs.declared.entry.Entry.{Entry}
 use Rattle.gw_routes.specs.declared.table.Table.{Table}
-use Rattle.gw_routes.specs.Files.{AreNumbered}
+use Rattle.gw_routes.specs.Files.{AreNumbered, HasWorkers}
 use Rattle.gw_session.specs.Resting.{IsRested}
 use Rattle.gw_top.specs.declared.run.Setup.{Setup}
 use Rattle.gw_top.specs.declared.run.Report.{Report}
@@ -82,6 +82,7 @@ Ran wire old new words report =
 -- what a run has made before it listens
 pub record IsReady {C W : Type 0} (setup : Setup W C) : Type 0 where
   pub numbered : AreNumbered setup.table
+  pub workers : HasWorkers setup.table
   pub limits : setup.pool.limits ≡ setup.table.limits
   pub rested : IsRested setup.pool
   pub seen : setup.pool.seen ≡ []

@@ -16,5 +16,5 @@ returns c =
       c.in-Some.pattern.now,
       route_is,
       c.in-Some.ensures,
-      (rw (c.deref.ensures.value, c.as_slice-in-Some.ensures) at c.in_ok-write_spans-in-Some.ensures) ∙ ap (λ l. l ++ span_lines (names_in c.in-Some.pattern.now.segs.items) c.args.hit.now.spans c.args.path.now) line,
+      (rw (c.deref.ensures.value, c.as_slice-in-Some.ensures.places) at c.in_ok-write_spans-in-Some.ensures) ∙ ap (λ l. l ++ span_lines (names_in c.in-Some.pattern.now.segs.items) c.args.hit.now.spans c.args.path.now) line,
     )
