@@ -1,5 +1,6 @@
 mod AttemptLemmas
 mod CallLemmas
+mod ComesLemmas
 mod DialLemmas
 mod DrawLemmas
 mod EndLemmas
@@ -11,10 +12,15 @@ mod InboxLemmas
 mod InsideLemmas
 mod LeaseLemmas
 mod LinkLemmas
+mod RelayCauses
+mod RelayEnds
+mod RelayLawLemmas
+mod RelayLemmas
 mod RestLemmas
 mod SendLemmas
 mod SeqLemmas
 mod StretchLemmas
+mod TextLemmas
 mod WaitLemmas
 mod WantLemmas
 mod WatchLemmas

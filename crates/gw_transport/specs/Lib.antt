@@ -9,3 +9,6 @@ pub mod Inbox
 pub mod Drawing
 pub mod Outbox
 pub mod Filling
+pub mod Relaying
+pub mod RelaySteps
+pub mod RelayLaws

@@ -1,6 +1,6 @@
 //! What is on its way to a link.
 
-ghost use Rattle.std.specs.Prelude.{◌≡◌, ◌<◌, ◌≤◌, ◌+◌, ◌++◌, ◌↔◌, [], true, false, length, IfOk};
+ghost use Rattle.std.specs.Prelude.{◌≡◌, ◌<◌, ◌≤◌, ◌+◌, ◌++◌, ◌↔◌, [], true, false, length, nat_lt, IfOk};
 ghost use Rattle.gw_chunk.specs.Chunked.{piece_limit};
 ghost use Rattle.gw_wire.specs.Link.{LinkLater};
 ghost use Rattle.gw_transport.specs.Drawing.{PullCause};
@@ -81,6 +81,13 @@ impl Outbox {
         ensures { (result ≡ true) ↔ HasRoom self.now }
     {
         self.done + PIECE_ROOM <= self.buf.len()
+    }
+
+    /// Whether there is any text that is ready.
+    pub fn has_text(&self) -> bool
+        ensures { result ≡ nat_lt 0 (length self.now.text) }
+    {
+        self.done > 0
     }
 
     /// Makes the piece that has begun a part of the text, if it has any data.
