@@ -6,6 +6,7 @@ mod DrawLemmas
 mod EndLemmas
 mod FailLemmas
 mod FillLemmas
+mod FirstLemmas
 mod FrameLemmas
 mod GuardLemmas
 mod InboxLemmas
@@ -16,6 +17,7 @@ mod RelayCauses
 mod RelayEnds
 mod RelayLawLemmas
 mod RelayLemmas
+mod ReplyLemmas
 mod RestLemmas
 mod SendLemmas
 mod SeqLemmas

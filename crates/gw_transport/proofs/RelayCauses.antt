@@ -41,7 +41,7 @@ stop_within a b c d silence stops.Deadline p q cause =
 stop_within a b c d silence stops.Silent p q cause = cause
 stop_within a b c d silence stops.Ticks p q cause = cause
 
-loss_within : (a b c d : Side) (from mid to : LinkView) (silence : Option ℕ) (why : Loss) → Goes a b → Goes c d → LinkLater from mid
+pub loss_within : (a b c d : Side) (from mid to : LinkView) (silence : Option ℕ) (why : Loss) → Goes a b → Goes c d → LinkLater from mid
     → LossCause b c mid to silence why → LossCause a d from to silence why
 loss_within a b c d from mid to silence loss.End p q later cause = rose_from from.ends mid.ends to.ends later.ends cause
 loss_within a b c d from mid to silence loss.Failed p q later cause = rose_from from.faults mid.faults to.faults later.faults cause

@@ -23,6 +23,7 @@ use Rattle.gw_transport.specs.Filling.{FillStep, Passing, passing}
 use Rattle.gw_transport.specs.Outbox.{OutView, HasRoom, end_of, piece_of, rest_of}
 use Rattle.gw_transport.specs.Relaying.{Came, Comes, Interleaved, IsFront, RelayStep, TextFor, came_bill, relayed_by, relayed_of, text_of}
 use Rattle.gw_transport.specs.RelaySteps.{ClosedWhole, LastStep, RoomStep, ended_by, loaded}
+use Rattle.gw_transport.specs.ReplyLaws.{WholeStep, whole_out}
 use Rattle.gw_transport.specs.Waits.{Side, Says, SentStep, Waited, Writes, sent_bill}
 use Rattle.gw_transport.proofs.ComesLemmas.{GoesOn, bill_of, came_of, comes_of, comes_then, said_behind, says_then}
 use Rattle.gw_transport.proofs.LinkLemmas.{waited_map, waited_then}
@@ -257,3 +258,19 @@ turn_on a b c source at_source next_source target now before at next ahead left 
     let had = k.room in
     let room : HasRoom after = omega arith in
     (w.0, room, link_then source at_source next_source later on_link, k.later)
+
+-- ---- a body that is whole
+
+whole_so : (said : Sent) → ended_by false relayed.Whole said ≡ relayed_by Came.Done said
+whole_so sent.All = refl
+whole_so (sent.Failed part) = refl
+whole_so (sent.Stopped why) = refl
+
+pub whole_step : (a b : Side) (from to : LinkView) (out closed : OutView) (silence : Option ℕ) (result : Relayed)
+    → closed ≡ record out { text = whole_out out; begun = [] } → LastStep a b from to (loaded closed false) silence relayed.Whole result
+    → WholeStep a b from to out silence result
+whole_step a b from to out closed silence result shut m = record {
+  said = m.said;
+  sends = subst (λ (o : OutView). SentStep a b from to o.text silence m.said) shut m.sends;
+  result_is = m.result_is ∙ whole_so m.said;
+}

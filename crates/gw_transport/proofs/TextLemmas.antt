@@ -46,7 +46,7 @@ texts_behind chunks (piece ∷ pieces) more whole =
 
 -- ---- the last piece
 
-last_text : (chunks : Bool) (rest : List ℕ) → length rest ≤ piece_limit → text_of chunks rest ≡ rest_of chunks rest ++ end_of chunks
+pub last_text : (chunks : Bool) (rest : List ℕ) → length rest ≤ piece_limit → text_of chunks rest ≡ rest_of chunks rest ++ end_of chunks
 last_text true [] most = refl
 last_text true (b ∷ rest) most =
     coded_front (b ∷ rest) (omega arith)

@@ -12,3 +12,5 @@ pub mod Filling
 pub mod Relaying
 pub mod RelaySteps
 pub mod RelayLaws
+pub mod Beginning
+pub mod ReplyLaws

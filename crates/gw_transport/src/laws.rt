@@ -1,6 +1,7 @@
 //! Laws of bodies that are relayed. Each is a function whose `ensures` is the law.
 
 ghost use Rattle.gw_transport.specs.RelayLaws.{ComesOfLink, DrawnIsBody, FrontOfText, ReadsAreTaken, SaysToLink};
+ghost use Rattle.gw_transport.specs.ReplyLaws.{RelayFollows, WholeFollows};
 
 use gw_body::bodies_follow_places;
 
@@ -27,4 +28,11 @@ pub fn front_of_text()
 pub fn sides_are_own()
     ensures comes { ComesOfLink }
     ensures says { SaysToLink }
+{}
+
+/// What is relayed behind the first piece of a body and a head, or written where the body was whole before, is a relay of
+/// the body from its beginning, with the head before its text.
+pub fn relays_follow()
+    ensures piece { RelayFollows }
+    ensures whole { WholeFollows }
 {}

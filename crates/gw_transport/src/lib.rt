@@ -2,6 +2,7 @@
 #![tactic(auto)]
 
 mod attempts;
+mod beginning;
 mod drawing;
 mod framing;
 mod guard;
@@ -14,13 +15,14 @@ mod waits;
 mod watch;
 
 pub use attempts::{Attempt, Attempted, Errand, Tried, make_trip};
+pub use beginning::{Began, first_piece};
 pub use drawing::{Pull, pull_piece};
 pub use guard::{Guard, Sight};
 pub use inbox::Inbox;
-pub use laws::{drawn_is_body, front_of_text, reads_are_taken, sides_are_own};
+pub use laws::{drawn_is_body, front_of_text, reads_are_taken, relays_follow, sides_are_own};
 pub use leasing::{Leased, close_expired, end_lease, lease};
 pub use outbox::Outbox;
-pub use relaying::{Incoming, Relayed, Silences, relay};
+pub use relaying::{Incoming, Relayed, Silences, relay, write_whole};
 pub use waits::{
     Heard, Limit, Loss, Sent, Stop, Taken, read_some, read_within, write_all, write_within,
 };

@@ -2,9 +2,10 @@
 
 ghost use Rattle.std.specs.Prelude.{◌≡◌, ◌≤◌, IfOk, false};
 
+use crate::beginning::{Began, first_piece};
 use crate::inbox::Inbox;
 use crate::outbox::Outbox;
-use crate::relaying::{Incoming, Relayed, Silences, relay};
+use crate::relaying::{Incoming, Relayed, Silences, relay, write_whole};
 use crate::tests::{NOW, half_a_minute};
 use crate::waits::Loss;
 use gw_body::BodyReader;
@@ -224,5 +225,51 @@ fn pieces_are_passed_on(rt: HostRuntime) -> Result<(), Fail> {
         let passed = pass(alloc, Framing::Length(row.length), sends, true, &[])?;
         assert!(rt; is_long(&passed, row));
     }
+    Ok(())
+}
+
+// The same of a body up to its link's end, whose first piece is waited for before a head is written in front of it; and
+// how many writes there were.
+fn reply(alloc: Global, count: usize) -> Result<(Began, Passed, usize), AllocError> {
+    let mut wire = wire(alloc)?;
+    let mut events = Vec::new(alloc);
+    events.push(ConnEvent::Piece(Bytes::new(vec![in alloc; b'x'; count]?)))?;
+    let mut source = MemConn::new(7, events, Vec::new(alloc));
+    let mut target = MemConn::new(8, Vec::new(alloc), Vec::new(alloc));
+    let mut from = Incoming {
+        body: BodyReader::new(Framing::ToEnd),
+        inbox: Inbox::new(alloc)?,
+    };
+    let mut out = Outbox::new(alloc)?;
+    let began = first_piece(
+        &mut wire,
+        &mut half_a_minute(),
+        &mut source,
+        &mut from,
+        &mut out,
+        None,
+    );
+    let before = wire.acts().len();
+    let mut end = Relayed::Spent;
+    if out.takes_head(b"head ") {
+        out.put_head(b"head ");
+        end = write_whole(&mut wire, &mut half_a_minute(), &mut target, &mut out, None);
+    }
+    let text = taken(alloc, wire.acts())?;
+    let writes = wire.acts().len().saturating_sub(before);
+    Ok((began, Passed { end, text }, writes))
+}
+
+/// A body that is whole before it has 8,192 bytes leaves with its head in one write.
+#[test]
+fn head_and_body_in_one_write(rt: HostRuntime) -> Result<(), Fail> {
+    let alloc = rt.alloc();
+    let (began, passed, writes) = reply(alloc, 5)?;
+    assert!(rt; began == Began::Whole);
+    assert!(rt; passed.end == Relayed::Whole);
+    assert!(rt; passed.text.as_slice() == b"head xxxxx".as_slice());
+    assert!(rt; writes == 1);
+    let (began, _, _) = reply(alloc, 8_192)?;
+    assert!(rt; began == Began::Piece);
     Ok(())
 }

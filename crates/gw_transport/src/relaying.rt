@@ -1,11 +1,13 @@
 //! Bodies that are passed on from one link to another.
 
-ghost use Rattle.std.specs.Prelude.{◌≡◌, ◌≤◌, [], false};
+ghost use Rattle.std.specs.Prelude.{◌≡◌, ◌≤◌, ◌↔◌, [], true, false};
+ghost use Rattle.gw_body.specs.Places.{is_done};
 ghost use Rattle.gw_wire.specs.Link.{LinkLater};
 ghost use Rattle.gw_transport.specs.Filling.{passing};
 ghost use Rattle.gw_transport.specs.Outbox.{HasRoom, piece_room};
 ghost use Rattle.gw_transport.specs.Relaying.{RelayCause, RelayStep};
 ghost use Rattle.gw_transport.specs.RelaySteps.{ClosedWhole, LastStep, RoomStep, loaded};
+ghost use Rattle.gw_transport.specs.ReplyLaws.{WholeStep};
 ghost use Rattle.gw_transport.specs.Waits.{side};
 
 use crate::drawing::Pull;
@@ -81,7 +83,7 @@ pub fn relay<W: Wire, G: Guard>(
     let mut some = false;
     for _turn in 0..u64::MAX {
         close_whole(out);
-        let idle = from.inbox.is_empty();
+        let idle = is_waiting(from);
         match make_room(wire, guard, target, out, &mut some, idle, silences.target) {
             Sent::All => {}
             Sent::Failed(part) => return Relayed::WriteFailed(some || part),
@@ -141,6 +143,37 @@ pub fn relay<W: Wire, G: Guard>(
         silences.target,
         Relayed::Spent,
     )
+}
+
+/// Writes a body that is whole: the piece that has begun is its last. What is on its way in the outbox goes first, and
+/// all in one row of writes.
+pub fn write_whole<W: Wire, G: Guard>(
+    wire: &mut W,
+    guard: &mut G,
+    target: &mut W::Conn,
+    out: &mut Outbox,
+    silence: Option<u64>,
+) -> Relayed
+    requires room { HasRoom out.old }
+    requires fresh { (W.wire wire.old).aged ≡ false }
+    requires looked { (G.guard guard.old).last ≤ (W.wire wire.old).moment }
+    ensures step { WholeStep (side (W.wire wire.old) (G.guard guard.old)) (side (W.wire wire.new) (G.guard guard.new))
+        (W.Conn.link target.old) (W.Conn.link target.new) out.old silence result }
+    ensures out { out.new ≡ record out.old { text = []; begun = [] } }
+    ensures guard { G.keeper guard.new ≡ G.keeper guard.old }
+{
+    out.close_body();
+    write_last(wire, guard, target, out, false, silence, Relayed::Whole)
+}
+
+// Whether the link is read next: nothing is ahead, and the body isn't known to be whole.
+fn is_waiting(from: &Incoming) -> bool
+    ensures { (result ≡ true) ↔ ((from.now.inbox ≡ []) × (is_done from.now.body ≡ false)) }
+{
+    if !from.inbox.is_empty() {
+        return false;
+    }
+    !from.body.done()
 }
 
 // Closes the piece that has begun where it has the most data that a piece has.
