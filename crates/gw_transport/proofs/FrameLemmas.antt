@@ -111,3 +111,28 @@ room_left buf before done begun gap chunks seen parts same room =
 
 pub mid_long : (xs : List ℕ) (at k : ℕ) → at + k ≤ length xs → length (take k (drop at xs)) ≡ k
 mid_long xs at k within = length-take-le k (drop at xs) (omega (arith, length-drop at xs, within))
+
+-- ---- bytes that are put in front of that data
+
+pub head_fits : (buf : List ℕ) (before : OutView) (done begun gap : ℕ) (chunks : Bool) (head : List ℕ) → out_view buf done begun chunks ≡ before
+    → HasParts buf done begun chunks → gap ≡ gap_of chunks → HasRoom (record before { text = before.text ++ head }) → done + (gap + (begun + length head)) ≤ length buf
+head_fits buf before done begun gap chunks head seen parts same room =
+    let here : HasRoom (record (out_view buf done begun chunks) { text = take done buf ++ head }) =
+    subst (λ (v : OutView). HasRoom (record v { text = v.text ++ head })) (sym seen) room
+    in
+    let text : length (take done buf) ≡ done = length-take-le done buf (let w = parts.within in omega arith) in
+    let most = parts.most in
+    omega (arith, here, text, same, most, gap_low chunks, length-append (take done buf) head)
+
+-- the front of a front
+pub front_kept : (a b : List ℕ) (done at : ℕ) → done ≤ at → take at a ≡ take at b → take done a ≡ take done b
+front_kept a b done at le same = sym (take-take done at a le) ∙ ap (take done) same ∙ take-take done at b le
+
+pub behind_kept : (a b : List ℕ) (n gap begun : ℕ) → drop n a ≡ drop n b → begun_of a (n + gap) begun ≡ begun_of b (n + gap) begun
+behind_kept a b n gap begun same = ap (take begun) (sym (drop-drop gap n a) ∙ ap (drop gap) same ∙ drop-drop gap n b)
+
+pub head_put : (b0 b1 b2 : List ℕ) (done gap begun n long : ℕ) → n ≡ done + long → drop n b2 ≡ drop n b1
+    → begun_of b1 (done + gap + long) begun ≡ begun_of b0 (done + gap) begun → begun_of b2 (n + gap) begun ≡ begun_of b0 (done + gap) begun
+head_put b0 b1 b2 done gap begun n long count rest moved =
+    let same : n + gap ≡ done + gap + long = omega (arith, count) in
+    behind_kept b2 b1 n gap begun rest ∙ ap (λ m. begun_of b1 m begun) same ∙ moved

@@ -9,3 +9,8 @@ pub mod Inbox
 pub mod Drawing
 pub mod Outbox
 pub mod Filling
+pub mod Relaying
+pub mod RelaySteps
+pub mod RelayLaws
+pub mod Beginning
+pub mod ReplyLaws

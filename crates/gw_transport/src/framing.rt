@@ -1,6 +1,6 @@
 //! Pieces that are framed in the buffer where their data stands.
 
-ghost use Rattle.std.specs.Prelude.{◌≡◌, ◌<◌, ◌≤◌, ◌+◌, ◌-◌, ◌++◌, length, take};
+ghost use Rattle.std.specs.Prelude.{◌≡◌, ◌<◌, ◌≤◌, ◌+◌, ◌-◌, ◌++◌, length, take, drop};
 ghost use Rattle.gw_chunk.specs.Chunked.{coded_piece};
 ghost use Rattle.gw_transport.specs.Outbox.{begun_of, end_of, gap_of, piece_of, rest_of};
 
@@ -65,6 +65,7 @@ pub(crate) fn close_begun(buf: &mut [u8], done: usize, begun: usize, chunks: boo
 pub(crate) fn put_behind(buf: &mut [u8], done: usize, bytes: &[u8]) -> usize
     requires room { done + length bytes.now ≤ length buf.old }
     ensures text { take result buf.new ≡ take done buf.old ++ bytes.now }
+    ensures rest { drop result buf.new ≡ drop result buf.old }
     ensures kept { length buf.new ≡ length buf.old }
     ensures count { result ≡ done + length bytes.now }
 {
@@ -91,6 +92,40 @@ pub(crate) fn move_down(buf: &mut [u8], at: usize, to: usize, count: usize)
     requires room { at + count ≤ length buf.old }
     requires down { to ≤ at }
     ensures moved { begun_of buf.new to count ≡ begun_of buf.old at count }
+    ensures kept { length buf.new ≡ length buf.old }
+{
+    if at == to || count == 0 {
+        return;
+    }
+    buf.copy_within(at..at + count, to);
+}
+
+/// Puts bytes behind a text, and moves the data that stands behind it, with a gap between, up behind them; says how long
+/// the text is then.
+pub(crate) fn put_before(
+    buf: &mut [u8],
+    done: usize,
+    gap: usize,
+    begun: usize,
+    bytes: &[u8],
+) -> usize
+    requires room { done + (gap + (begun + length bytes.now)) ≤ length buf.old }
+    ensures text { take result buf.new ≡ take done buf.old ++ bytes.now }
+    ensures begun { begun_of buf.new (result + gap) begun ≡ begun_of buf.old (done + gap) begun }
+    ensures kept { length buf.new ≡ length buf.old }
+    ensures count { result ≡ done + length bytes.now }
+{
+    let at = done + gap;
+    move_up(buf, at, at + bytes.len(), begun);
+    put_behind(buf, done, bytes)
+}
+
+// Moves so many bytes from one place up to another.
+fn move_up(buf: &mut [u8], at: usize, to: usize, count: usize)
+    requires room { to + count ≤ length buf.old }
+    requires up { at ≤ to }
+    ensures moved { begun_of buf.new to count ≡ begun_of buf.old at count }
+    ensures front { take at buf.new ≡ take at buf.old }
     ensures kept { length buf.new ≡ length buf.old }
 {
     if at == to || count == 0 {

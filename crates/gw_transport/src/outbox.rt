@@ -1,6 +1,6 @@
 //! What is on its way to a link.
 
-ghost use Rattle.std.specs.Prelude.{◌≡◌, ◌<◌, ◌≤◌, ◌+◌, ◌++◌, ◌↔◌, [], true, false, length, IfOk};
+ghost use Rattle.std.specs.Prelude.{◌≡◌, ◌<◌, ◌≤◌, ◌+◌, ◌++◌, ◌↔◌, [], true, false, length, nat_lt, IfOk};
 ghost use Rattle.gw_chunk.specs.Chunked.{piece_limit};
 ghost use Rattle.gw_wire.specs.Link.{LinkLater};
 ghost use Rattle.gw_transport.specs.Drawing.{PullCause};
@@ -9,7 +9,7 @@ ghost use Rattle.gw_transport.specs.Outbox.{HasRoom, end_of, rest_of, out_size};
 ghost use Rattle.gw_transport.specs.Waits.{SentStep, side};
 
 use crate::drawing::{Pull, pull_piece};
-use crate::framing::{close_begun, gap, move_down, put_end};
+use crate::framing::{close_begun, gap, move_down, put_before, put_end};
 use crate::guard::Guard;
 use crate::inbox::Inbox;
 use crate::waits::{Sent, write_all};
@@ -81,6 +81,33 @@ impl Outbox {
         ensures { (result ≡ true) ↔ HasRoom self.now }
     {
         self.done + PIECE_ROOM <= self.buf.len()
+    }
+
+    /// Whether there is any text that is ready.
+    pub fn has_text(&self) -> bool
+        ensures { result ≡ nat_lt 0 (length self.now.text) }
+    {
+        self.done > 0
+    }
+
+    /// Whether there is room for these bytes in front of the data that has begun.
+    pub fn takes_head(&self, head: &[u8]) -> bool
+        ensures { (result ≡ true) ↔ HasRoom (record self.now { text = self.now.text ++ head.now }) }
+    {
+        if !self.has_room() {
+            return false;
+        }
+        head.len() <= self.buf.len() - (self.done + PIECE_ROOM)
+    }
+
+    /// Puts bytes, as a message's head, behind the text and in front of the data that has begun: they leave in one write
+    /// with the first pieces.
+    pub fn put_head(&mut self, head: &[u8])
+        requires { HasRoom (record self.old { text = self.old.text ++ head.now }) }
+        ensures { self.new ≡ record self.old { text = self.old.text ++ head.now } }
+    {
+        let gap = gap(self.chunks);
+        self.done = put_before(&mut self.buf, self.done, gap, self.begun, head);
     }
 
     /// Makes the piece that has begun a part of the text, if it has any data.
