@@ -5,7 +5,8 @@ ghost use Rattle.gw_wire.specs.MemoryLink.{conn_view};
 ghost use Rattle.gw_transport.specs.Leasing.{IsLeased, IsRested, Left};
 
 use gw_pool::{Lease, Limits};
-use gw_transport::{Guard, Leased, Sight, end_lease, lease};
+use gw_stream::Timer;
+use gw_transport::{Leased, end_lease, lease};
 use gw_turn::{Desk, Pass, Pool};
 use gw_wire::{Act, Addr, DialEvent, MemConn, MemWire, Moment, Script, Wire};
 use std::alloc::{AllocError, Global};
@@ -20,41 +21,6 @@ const BACKEND: Addr = Addr {
     ip: [127, 0, 0, 1],
     port: 9_000,
 };
-
-/// A guard whose trip may always go on.
-#[derive(Drop)]
-struct Patient {
-    last: u64,
-}
-
-impl Guard for Patient {
-    ghost use Rattle.std.specs.Prelude.{None, []};
-    ghost use Rattle.gw_context.specs.Tree.{new_tree};
-    ghost use Rattle.gw_ctxwords.specs.Rule as words;
-    ghost use Rattle.gw_gate.specs.Gate as gate;
-
-    ghost guard = { λ p. record {
-      tree = new_tree;
-      node = 0;
-      deadline = None;
-      words = record { table = record { words = 0; slots = 0; views_name = 0; atom = 0; block = 0; offset = 0; slot_names = [] }; view = words.first_view };
-      own = 0;
-      gate = record { name = record { gate = record { words = 0; slots = 0; views_name = 0; atom = 0; block = 0; offset = 0; slot_names = [] }; number = 0 }; view = gate.first_view };
-      grace = 0;
-      shut_at = None;
-      last = p.last;
-      cancels = 0;
-    } };
-
-    ghost Keeper = { Unit {0} };
-
-    ghost keeper = { λ p. tt };
-
-    fn look(&mut self, now: u64) -> Sight {
-        self.last = now;
-        Sight::On
-    }
-}
 
 fn limits() -> Limits
     ensures hosts { result.hosts ≡ 1 }
@@ -108,7 +74,7 @@ fn come<R: Wait>(
     ensures host { 0 < pass.new.lent.limits.hosts }
     ensures fresh { wire.new.aged ≡ false }
 {
-    let mut guard = Patient { last: 0 };
+    let mut guard = Timer::new(None);
     let mut desk = Desk { rt, pool, pass };
     lease(wire, &mut desk, &mut guard, 0, &BACKEND)
 }

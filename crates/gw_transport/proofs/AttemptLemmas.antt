@@ -24,10 +24,11 @@ use Rattle.gw_transport.specs.declared.attempts.Tried.{Tried}
 use Rattle.gw_transport.specs.declared.attempts.Tried.TheVariants as tried
 use Rattle.gw_transport.specs.declared.leasing.Leased.TheVariants as leased
 use Rattle.gw_transport.specs.Attempts.{AttemptStep, AttemptedBy, AttemptedCause, AttemptedStep, Behind, ErrandView, FailureCause, FailedOnce, Misses, Retries, Tries, TriesInVain, TripStep, may_go_on}
-use Rattle.gw_transport.specs.Guard.{GuardView, IsDue}
+use Rattle.gw_stream.specs.Guard.{GuardView, IsDue}
 use Rattle.gw_transport.specs.Leasing.{Clearing, EndStep, ExpiredStep, IsLate, IsLeased, IsRested, Lateness, LeasedBy, LeasedStep}
 use Rattle.gw_transport.specs.Parts.{Anywhere, Ends, Expires, IsRefused, Leases, Sees, Unreached}
-use Rattle.gw_transport.specs.Stretch.{Stretch, Watched}
+use Rattle.gw_stream.specs.Watched.{Watched}
+use Rattle.gw_transport.specs.Stretch.{Stretch}
 use Rattle.gw_transport.proofs.EndLemmas.{part_now}
 use Rattle.gw_transport.proofs.RestLemmas.{rose_from}
 use Rattle.gw_transport.proofs.SeqLemmas.{sees_hands, sees_sees, seq_map}

@@ -8,11 +8,11 @@ use Rattle.gw_pool.specs.declared.leases.Ticket.{Ticket}
 use Rattle.gw_pool.specs.Lent.{Lent, row_of}
 use Rattle.gw_account.specs.Did.{span}
 use Rattle.gw_account.specs.Work.{Work, At, Seq, and, behind, free}
-use Rattle.gw_transport.specs.declared.guard.Sight.TheVariants as sight
+use Rattle.gw_stream.specs.declared.guard.Sight.TheVariants as sight
 use Rattle.gw_transport.specs.declared.leasing.Leased.{Leased}
 use Rattle.gw_transport.specs.declared.leasing.Leased.TheVariants as leased
 use Rattle.gw_transport.specs.declared.leasing.Wanted.TheVariants as wanted
-use Rattle.gw_transport.specs.Guard.{GuardGoes, GuardView, IsDue, LookStep}
+use Rattle.gw_stream.specs.Guard.{GuardGoes, GuardView, IsDue, LookStep}
 use Rattle.gw_transport.specs.Leasing.{Clearing, IsRested, Lateness, LeaseCause, LeasedBy, LeasedStep, Stops, WaitedBy, WaitedStep, WantedStep}
 use Rattle.gw_transport.specs.Parts.{Way, Comes, FindsExpired, Fits, GivesUp, IsPlace, IsRefused, IsWaiting, Leases, Repeats, Sees, Unreached, Wants, a_million_rests}
 use Rattle.gw_transport.specs.Stretch.{Stretch}

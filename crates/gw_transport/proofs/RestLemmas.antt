@@ -19,15 +19,15 @@ use Rattle.gw_pool.specs.Tokens.{has_ticket}
 use Rattle.gw_account.specs.Did.{span, Doing}
 use Rattle.gw_account.specs.Work.{Work, At, Seq, at_of, behind, free}
 use Rattle.gw_account.proofs.Facts.{doing_billed, doing_went, pays_by, wired_call}
-use Rattle.gw_transport.specs.declared.guard.Sight.TheVariants as sight
+use Rattle.gw_stream.specs.declared.guard.Sight.TheVariants as sight
 use Rattle.gw_transport.specs.declared.leasing.Leased.{Leased}
 use Rattle.gw_transport.specs.declared.leasing.Leased.TheVariants as leased
-use Rattle.gw_transport.specs.Guard.{GuardGoes, GuardView, IsBefore, IsDue, LookStep}
+use Rattle.gw_stream.specs.Guard.{GuardGoes, GuardView, IsBefore, IsDue, LookStep}
 use Rattle.gw_transport.specs.Leasing.{AnswerStands, DialedBy, DialedStep, GaveUpStep, IsAsked, IsPending, LeaseCause, Lateness, WaitedBy, WaitedStep}
 use Rattle.gw_transport.specs.Parts.{Way, Cancels, Comes, Fails, Fits, IsGiven, IsPlace, Sees, a_million_rests}
 use Rattle.gw_transport.specs.Stretch.{Stretch}
 use Rattle.gw_transport.proofs.CallLemmas.{leased_so, row_taken}
-use Rattle.gw_transport.proofs.GuardLemmas.{guard_same}
+use Rattle.gw_stream.proofs.Facts.{guard_same}
 use Rattle.gw_transport.proofs.SeqLemmas.{seq_map, sees_comes, sees_fails, sees_sees}
 use Rattle.gw_transport.proofs.StretchLemmas.{part_looked, part_nothing, stretch_by, stretch_look, stretch_map, stretch_part, stretch_then}
 use Rattle.gw_transport.proofs.WaitLemmas.{comes_early, granted_place, waiting_only}

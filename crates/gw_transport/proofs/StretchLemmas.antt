@@ -10,12 +10,15 @@ use Rattle.gw_pool.specs.Lent.{Lent, Calls, Looks, entry_of}
 use Rattle.gw_pool.specs.Machine.{Outcome}
 use Rattle.gw_pool.specs.Moments.{call_moments}
 use Rattle.gw_account.specs.Did.{Span, span, Went}
-use Rattle.gw_account.specs.Work.{Work, At, free, nothing, and, at_of, Seq}
+use Rattle.gw_wire.specs.declared.values.Act.{Act}
+use Rattle.gw_account.specs.Work.{Bill, Work, At, free, nothing, and, at_of, Only, Seq}
 use Rattle.gw_account.proofs.Facts.{at_then, doing_then, doing_nothing, doing_went, called, called_untimed, looked}
-use Rattle.gw_transport.specs.Guard.{GuardView, GuardGoes, IsBefore}
+use Rattle.gw_stream.specs.Guard.{GuardView, GuardGoes}
 use Rattle.gw_transport.specs.Parts.{Called, Sees}
-use Rattle.gw_transport.specs.Stretch.{Asked, Part, Stretch, Watched}
-use Rattle.gw_transport.proofs.GuardLemmas.{guard_same, guard_then}
+use Rattle.gw_stream.specs.Watched.{Watched}
+use Rattle.gw_stream.specs.Waits.{Side, Waited}
+use Rattle.gw_transport.specs.Stretch.{Part, Stretch}
+use Rattle.gw_stream.proofs.Facts.{guard_same, watched_then}
 
 pub part_then : {x y z : WireView} {a b c : Lent} {P Q : At → Work → Type 0}
     → Part (span x y a b) P → Part (span y z b c) Q → Part (span x z a c) (Seq P Q)
@@ -90,17 +93,6 @@ part_untimed P wire a b others asked outcome links fresh names c waits place lef
 
 -- ---- beside a guard
 
-asked_then : (d e : Option ℕ) (x y z : ℕ) → e ≡ d → Asked d x y → Asked e y z → Asked d x z
-asked_then d e x y z same p (inr b) = inr (subst (λ (o : Option ℕ). IsBefore o z) same b)
-asked_then d e x y z same (inl p) (inl q) = inl (q ∙ p)
-asked_then d e x y z same (inr b) (inl q) = inr (subst (λ (n : ℕ). IsBefore d n) (sym q) b)
-
-pub watched_then : (x y z : WireView) (f g h : GuardView) → y.moment ≤ z.moment → Watched x y f g → Watched y z g h → Watched x z f h
-watched_then x y z f g h le p q = record {
-  goes = guard_then f g h y.moment z.moment le p.goes q.goes;
-  asked = asked_then f.deadline g.deadline x.asked y.asked z.asked p.goes.deadline p.asked q.asked;
-}
-
 pub stretch_then : {x y z : WireView} {a b c : Lent} {f g h : GuardView} {P Q : At → Work → Type 0}
     → Stretch (span x y a b) f g P → Stretch (span y z b c) g h Q → Stretch (span x z a c) f h (Seq P Q)
 stretch_then {x} {y} {z} {a} {b} {c} {f} {g} {h} {P} {Q} p q =
@@ -138,4 +130,14 @@ stretch_look wire a f g now fresh read goes = record {
   doing = doing_nothing wire a fresh;
   watched = record { goes = subst (λ (m : ℕ). GuardGoes f g m) (sym read) goes; asked = inl refl };
   does = (refl, refl, refl);
+}
+
+-- such calls, while nobody called the pool, are a stretch of work
+pub stretch_waited : {a b : Side} {u : Bill} {P : List Act → Type 0} (pool : Lent) → Waited a b u P
+    → Stretch (span a.wire b.wire pool pool) a.guard b.guard (Only u P)
+stretch_waited {a} {b} {u} {P} pool p = record {
+  work = p.went.work;
+  doing = doing_went a.wire b.wire pool p.went.work p.went.fresh p.went.wired p.went.made p.went.rests;
+  watched = p.watched;
+  does = p.went.does (at_of a.wire pool);
 }

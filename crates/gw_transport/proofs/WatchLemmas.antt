@@ -15,7 +15,7 @@ use Rattle.gw_ctxwords.specs.declared.answers.Looked.TheVariants as looked
 use Rattle.gw_ctxwords.specs.declared.nodes.NodeSpec.{NodeSpec}
 use Rattle.gw_ctxwords.specs.declared.view.CtxView.{CtxView}
 use Rattle.gw_gate.specs.Seat as gate
-use Rattle.gw_transport.specs.Guard.{CancelsOnlyBase, GuardGoes, GuardView, IsBefore, IsDue, IsPast, ShutGoes}
+use Rattle.gw_stream.specs.Guard.{CancelsOnlyBase, GuardGoes, GuardView, IsBefore, IsDue, IsPast, ShutGoes}
 use Rattle.gw_transport.specs.Watch.{CtxStep, FirstDeadlineIsLeast, GateStep, IsLeast, IsRunning, is_no_later, seats_of, times_found, watched}
 
 -- ---- the tree

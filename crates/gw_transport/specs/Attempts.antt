@@ -17,10 +17,11 @@ use Rattle.gw_transport.specs.declared.attempts.Attempted.TheVariants as attempt
 use Rattle.gw_transport.specs.declared.attempts.Errand.{Errand}
 use Rattle.gw_transport.specs.declared.attempts.Tried.{Tried}
 use Rattle.gw_transport.specs.declared.attempts.Tried.TheVariants as tried
-use Rattle.gw_transport.specs.Guard.{GuardView}
+use Rattle.gw_stream.specs.Guard.{GuardView}
 use Rattle.gw_transport.specs.Leasing.{Clearing, IsLate, IsLeased, IsRested, LateBy, Lateness, Stops}
 use Rattle.gw_transport.specs.Parts.{Ends, Expires, IsRefused, Leases, Sees, Unreached}
-use Rattle.gw_transport.specs.Stretch.{Stretch, Watched}
+use Rattle.gw_stream.specs.Watched.{Watched}
+use Rattle.gw_transport.specs.Stretch.{Stretch}
 
 -- where a request goes, and what says whether it may be sent again
 pub record ErrandView : Type 0 where

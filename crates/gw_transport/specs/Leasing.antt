@@ -25,7 +25,7 @@ use Rattle.gw_transport.specs.declared.leasing.Leased.{Leased}
 use Rattle.gw_transport.specs.declared.leasing.Leased.TheVariants as leased
 use Rattle.gw_transport.specs.declared.leasing.Wanted.{Wanted}
 use Rattle.gw_transport.specs.declared.leasing.Wanted.TheVariants as wanted
-use Rattle.gw_transport.specs.Guard.{GuardView, IsDue}
+use Rattle.gw_stream.specs.Guard.{GuardView, IsDue}
 use Rattle.gw_transport.specs.Parts.{Way, Cancels, Closes, Comes, Ends, Expires, Fails, FindsExpired, Fits, GivesUp, IsPlace, IsRefused, IsWaiting, Leases, Repeats, Sees, Unreached, Wants, a_million_rests}
 use Rattle.gw_transport.specs.Stretch.{Part, Stretch}
 

@@ -1,16 +1,5 @@
-pub mod Guard
 pub mod Stretch
 pub mod Parts
 pub mod Leasing
 pub mod Attempts
 pub mod Watch
-pub mod Waits
-pub mod Inbox
-pub mod Drawing
-pub mod Outbox
-pub mod Filling
-pub mod Relaying
-pub mod RelaySteps
-pub mod RelayLaws
-pub mod Beginning
-pub mod ReplyLaws

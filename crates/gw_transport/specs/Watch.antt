@@ -8,7 +8,7 @@ use Rattle.gw_context.specs.Node.{Under, node_at, root}
 use Rattle.gw_context.specs.Tree.{TreeView, added, timed_child_of}
 use Rattle.gw_ctxwords.specs.Calls as ctx
 use Rattle.gw_gate.specs.Seat as gate
-use Rattle.gw_transport.specs.Guard.{GuardView}
+use Rattle.gw_stream.specs.Guard.{GuardView}
 
 -- how often a node was found ended
 abbrev pub times_found : ℕ → List (ℕ × Cause) → ℕ

@@ -8,10 +8,10 @@ ghost use Rattle.gw_transport.specs.declared.attempts.Tried.{Tried};
 ghost use Rattle.gw_transport.specs.Attempts.{AttemptStep, AttemptedBy, AttemptedStep, IsReadyAgain, TripStep, errand_of};
 ghost use Rattle.gw_transport.specs.Leasing.{IsRested, Lateness};
 
-use crate::guard::Guard;
 use crate::leasing::{Leased, close_expired, end_lease, lease};
 use gw_pool::{Lease, Leases};
 use gw_retry::{BodyKind, Failure, MAX_ATTEMPTS, may_retry};
+use gw_stream::Guard;
 use gw_wire::{Addr, Wire};
 use http::Method;
 

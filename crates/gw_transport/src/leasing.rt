@@ -7,8 +7,8 @@ ghost use Rattle.gw_pool.specs.Places.{is_granted};
 ghost use Rattle.gw_account.specs.Did.{span};
 ghost use Rattle.gw_transport.specs.Leasing.{DialedStep, EndStep, ExpiredStep, GaveUpStep, IsAsked, IsLeased, IsPending, IsRested, LeasedStep, LeftStep, TakenStep, WaitedStep, WantedStep};
 
-use crate::guard::{Guard, Sight};
 use gw_pool::{Ask, Lease, Leases, Put, Start, Ticket, Want};
+use gw_stream::{Guard, Sight};
 use gw_wire::{Addr, Dial, Wire};
 
 /// How often a want that waits is asked for, with a rest between.

@@ -4,16 +4,16 @@ ghost use Rattle.std.specs.Prelude.{◌≡◌, ◌<◌, ◌≤◌, IfOk, false};
 ghost use Rattle.gw_transport.specs.Leasing.{IsRested};
 
 use crate::attempts::{Attempt, Attempted, Errand, Tried, make_trip};
-use crate::guard::{Guard, Sight};
 use crate::leasing::{Leased, end_lease, lease};
 use gw_pool::{Limits, Solo};
 use gw_retry::{BodyKind, Failure};
+use gw_stream::Timer;
 use gw_wire::{Accept, Act, Addr, DialEvent, MemConn, MemWire, Moment, Script, Wire};
 use http::Method;
 use std::alloc::{AllocError, Global};
 use std::test::Fail;
 
-pub(crate) const NOW: u64 = 784_111_777_000;
+const NOW: u64 = 784_111_777_000;
 
 const BACKEND: Addr = Addr {
     local: true,
@@ -21,61 +21,10 @@ const BACKEND: Addr = Addr {
     port: 9_000,
 };
 
-/// A guard whose trip is over at a moment, or cancelled.
-#[derive(Drop)]
-pub(crate) struct Alarm {
-    pub(crate) deadline: u64,
-    pub(crate) cancelled: bool,
-    last: u64,
-    cancels: u64,
-}
-
-impl Guard for Alarm {
-    ghost use Rattle.std.specs.Prelude.{Some, None, []};
-    ghost use Rattle.gw_context.specs.Tree.{new_tree};
-    ghost use Rattle.gw_ctxwords.specs.Rule as words;
-    ghost use Rattle.gw_gate.specs.Gate as gate;
-
-    ghost guard = { λ a. record {
-      tree = new_tree;
-      node = 0;
-      deadline = Some a.deadline;
-      words = record { table = record { words = 0; slots = 0; views_name = 0; atom = 0; block = 0; offset = 0; slot_names = [] }; view = words.first_view };
-      own = 0;
-      gate = record { name = record { gate = record { words = 0; slots = 0; views_name = 0; atom = 0; block = 0; offset = 0; slot_names = [] }; number = 0 }; view = gate.first_view };
-      grace = 0;
-      shut_at = None;
-      last = a.last;
-      cancels = a.cancels;
-    } };
-
-    ghost Keeper = { Unit {0} };
-
-    ghost keeper = { λ a. tt };
-
-    fn look(&mut self, now: u64) -> Sight {
-        self.last = now;
-        if self.cancelled {
-            self.cancels = self.cancels.saturating_add(1);
-            return Sight::Cancelled;
-        }
-        if now < self.deadline {
-            Sight::On
-        } else {
-            Sight::Late
-        }
-    }
-}
-
-pub(crate) fn half_a_minute() -> Alarm
+fn half_a_minute() -> Timer
     ensures { result.last ≡ 0 }
 {
-    Alarm {
-        deadline: NOW + 30_000,
-        cancelled: false,
-        last: 0,
-        cancels: 0,
-    }
+    Timer::new(Some(NOW + 30_000))
 }
 
 fn limits(journal: u32) -> Limits
@@ -129,7 +78,7 @@ enum Came {
 }
 
 // A trip to host 0, whose lease is given back or dropped.
-fn trip(wire: &mut MemWire, pool: &mut Solo<MemConn>, guard: &mut Alarm, reusable: bool) -> Came
+fn trip(wire: &mut MemWire, pool: &mut Solo<MemConn>, guard: &mut Timer, reusable: bool) -> Came
     requires fresh { wire.old.aged ≡ false }
     requires looked { guard.old.last ≤ wire.old.moment }
     requires rested { IsRested pool.old }
@@ -215,7 +164,7 @@ fn no_connection(rt: HostRuntime) -> Result<(), Fail> {
         trip(&mut wire, &mut pool, &mut guard, true),
         Came::Unreachable
     );
-    guard.deadline = NOW;
+    guard.deadline = Some(NOW);
     assert_eq!(rt; trip(&mut wire, &mut pool, &mut guard, true), Came::Late);
     guard.cancelled = true;
     assert_eq!(rt;
@@ -257,7 +206,7 @@ struct Scripted {
     made: usize,
 }
 
-impl Attempt<MemWire, Alarm> for Scripted {
+impl Attempt<MemWire, Timer> for Scripted {
     ghost use Rattle.std.specs.Prelude.{ℕ};
     ghost use Rattle.gw_retry.specs.declared.BodyKind.{BodyKind};
     ghost use Rattle.gw_account.specs.Work.{Idle};
@@ -284,7 +233,7 @@ impl Attempt<MemWire, Alarm> for Scripted {
         &mut self,
         _wire: &mut MemWire,
         _conn: &mut MemConn,
-        _guard: &mut Alarm,
+        _guard: &mut Timer,
     ) -> Tried<(), ()> {
         let play = match self.plays.get(self.made) {
             Some(play) => *play,

@@ -1,13 +1,13 @@
 //! What a worker's trip looks at: the gate, the contexts that threads share, and the tree of the session's deadlines.
 
 ghost use Rattle.std.specs.Prelude.{◌≡◌, ◌≤◌, ◌<◌, length};
-ghost use Rattle.gw_transport.specs.Guard.{LookStep};
+ghost use Rattle.gw_stream.specs.Guard.{LookStep};
 ghost use Rattle.gw_transport.specs.Watch.{CtxStep, FirstDeadlineIsLeast, GateStep, IsLeast, IsRunning, Keeper, seats_of, watched};
 
-use crate::guard::{Guard, Sight};
 use gw_context::{Cause, Tree, expired_under_due, live_before_deadline};
 use gw_ctxwords::{CtxSeat, CtxTable, Looked};
 use gw_gate::{Gate, GateSeat, Look};
+use gw_stream::{Guard, Sight};
 
 /// What a trip of a worker looks at before it waits. It is cancelled where the word of the worker's own node was read
 /// ended, and late where the deadline of its node of the tree has come. A worker that sees the gate shut notes the moment;

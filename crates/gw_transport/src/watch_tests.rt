@@ -2,11 +2,11 @@
 
 ghost use Rattle.std.specs.Prelude.{◌≡◌, ◌≤◌};
 
-use crate::guard::{Guard, Sight};
 use crate::watch::{Watch, first_deadline_is_least};
 use gw_context::Tree;
 use gw_ctxwords::{CtxTable, NodeSpec};
 use gw_gate::Gate;
+use gw_stream::{Guard, Sight};
 use std::alloc::Global;
 use std::test::Fail;
 

@@ -1,0 +1,12 @@
+pub mod Guard
+pub mod Watched
+pub mod Waits
+pub mod Inbox
+pub mod Drawing
+pub mod Outbox
+pub mod Filling
+pub mod Relaying
+pub mod RelaySteps
+pub mod RelayLaws
+pub mod Beginning
+pub mod ReplyLaws

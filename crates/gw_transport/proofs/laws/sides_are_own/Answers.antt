@@ -1,8 +1,0 @@
-use Rattle.gw_transport.proofs.RelayLawLemmas.{comes_own, says_own}
-use Rattle.gw_transport.proofs.laws.sides_are_own.Goals as goal
-
-pub returns-clause-comes : goal.returns-clause-comes
-returns-clause-comes c = comes_own
-
-pub returns-clause-says : goal.returns-clause-says
-returns-clause-says c = says_own
