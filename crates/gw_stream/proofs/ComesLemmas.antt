@@ -16,11 +16,11 @@ use Rattle.gw_stream.specs.declared.waits.Sent.{Sent}
 use Rattle.gw_stream.specs.declared.waits.Sent.TheVariants as sent
 use Rattle.gw_stream.specs.Drawing.{Draws, HearsPart, HearsWhile, IsPartFrom, Pulled, count_of, pull_bill}
 use Rattle.gw_stream.specs.Relaying.{Came, Comes, came_bill}
-use Rattle.gw_stream.specs.Waits.{IsWriteOf, Says, Writes}
+use Rattle.gw_stream.specs.Waits.{IsWriteOf, Says, Writes, said_behind}
 
 -- ---- reads behind reads
 
-hears_then : (W : List ℕ → Type 0) (k : ℕ) (a b c : List ℕ) (x y : List Act) → HearsWhile W k a b x → HearsWhile W k b c y → HearsWhile W k a c (x ++ y)
+pub hears_then : (W : List ℕ → Type 0) (k : ℕ) (a b c : List ℕ) (x y : List Act) → HearsWhile W k a b x → HearsWhile W k b c y → HearsWhile W k a c (x ++ y)
 hears_then W k a b c [] y h g = subst (λ (l : List ℕ). HearsWhile W k l c y) h g
 hears_then W k a b c (act ∷ x) y h g = (h.0, h.1, h.2, hears_then W k (a ++ h.1) b c x y h.3 g)
 
@@ -139,12 +139,6 @@ writes_then k a b x y p q = record {
   only = All-append (IsWriteOf k) x y p.only q.only;
   all = flat_map-append (written_of k) x y ∙ ap (λ l. l ++ bytes_written k y) p.all ∙ ap (λ l. a ++ l) q.all;
 }
-
--- a write behind others, of which some bytes were taken or none
-abbrev pub said_behind : Bool → Sent → Sent
-said_behind some sent.All = sent.All
-said_behind some (sent.Failed part) = sent.Failed (some || part)
-said_behind some (sent.Stopped why) = sent.Stopped why
 
 pub some_of : (a b : List ℕ) → (nat_lt 0 (length a) || nat_lt 0 (length b)) ≡ nat_lt 0 (length (a ++ b))
 some_of [] b = refl

@@ -14,5 +14,6 @@ mod RelayLemmas
 mod ReplyLemmas
 mod SendLemmas
 mod TextLemmas
+mod TogetherLemmas
 mod WatchedLemmas
 pub mod Facts

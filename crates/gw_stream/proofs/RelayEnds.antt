@@ -24,8 +24,8 @@ use Rattle.gw_stream.specs.Outbox.{OutView, HasRoom, end_of, piece_of, rest_of}
 use Rattle.gw_stream.specs.Relaying.{Came, Comes, Interleaved, IsFront, RelayStep, TextFor, came_bill, relayed_by, relayed_of, text_of}
 use Rattle.gw_stream.specs.RelaySteps.{ClosedWhole, LastStep, RoomStep, ended_by, loaded}
 use Rattle.gw_stream.specs.ReplyLaws.{WholeStep, whole_out}
-use Rattle.gw_stream.specs.Waits.{Side, Says, SentStep, Waited, Writes, sent_bill}
-use Rattle.gw_stream.proofs.ComesLemmas.{GoesOn, bill_of, came_of, comes_of, comes_then, said_behind, says_then}
+use Rattle.gw_stream.specs.Waits.{Side, Says, SentStep, Waited, Writes, sent_bill, said_behind}
+use Rattle.gw_stream.proofs.ComesLemmas.{GoesOn, bill_of, came_of, comes_of, comes_then, says_then}
 use Rattle.gw_stream.proofs.LinkLemmas.{waited_map, waited_then}
 use Rattle.gw_stream.proofs.RelayLemmas.{Relaying, one_more, other_more, relaying_closed, relaying_filled, relaying_wrote}
 use Rattle.gw_stream.proofs.TextLemmas.{whole_text}

@@ -17,12 +17,13 @@ use Rattle.gw_account.proofs.Facts.{free_both}
 use Rattle.gw_stream.specs.declared.waits.Heard.{Heard}
 use Rattle.gw_stream.specs.declared.waits.Heard.TheVariants as heard
 use Rattle.gw_stream.specs.declared.waits.Loss.TheVariants as loss
+use Rattle.gw_stream.specs.declared.waits.Sent.{Sent}
 use Rattle.gw_stream.specs.declared.waits.Sent.TheVariants as sent
 use Rattle.gw_stream.specs.declared.waits.Stop.{Stop}
 use Rattle.gw_stream.specs.declared.waits.Stop.TheVariants as stops
 use Rattle.gw_stream.specs.declared.waits.Taken.TheVariants as taken
 use Rattle.gw_stream.specs.Guard.{GuardView}
-use Rattle.gw_stream.specs.Waits.{Side, side, Waited, HeardCause, HeardStep, IsWriteOf, SentStep, StopCause, TakenStep, Writes}
+use Rattle.gw_stream.specs.Waits.{Side, side, Waited, CountedStep, HeardCause, HeardStep, IsCounted, IsWriteOf, Says, SaysFront, SentStep, StopCause, TakenStep, Writes}
 use Rattle.gw_stream.proofs.LinkLemmas.{rose_from, waited_free, waited_map, waited_same, waited_then}
 use Rattle.gw_stream.proofs.WatchedLemmas.{watched_now, watched_same}
 
@@ -111,50 +112,64 @@ sending_more w0 w x y g0 g h from at to bytes rest count now silence n is s c t 
       link = link_then from at to s.link t.link;
     }
 
-pub sent_all : (a b : Side) (from to : LinkView) (bytes : List ℕ) (count : ℕ) (silence : _) → length bytes ≤ count
-    → Sending a b from to (take count bytes) (length bytes) count → SentStep a b from to bytes silence sent.All
-sent_all a b from to bytes count silence le s =
-    let all : count ≡ length bytes = let w = s.within in omega arith in
-    record {
-      waited = subst (λ (d : List ℕ). Waited a b free (Writes from.number d)) (ap (λ n. take n bytes) all ∙ take-length bytes) s.waited;
-      link = s.link;
-      cause = tt;
-    }
+pub counted_all : (a b : Side) (from to : LinkView) (bytes : List ℕ) (count : ℕ) (silence : _) → length bytes ≤ count
+    → Sending a b from to (take count bytes) (length bytes) count → CountedStep a b from to bytes count silence sent.All
+counted_all a b from to bytes count silence le s =
+    record { within = s.within; counted = (let w = s.within in omega arith); waited = s.waited; link = s.link; cause = tt }
 
-pub sent_failed : (w0 w x y : WireView) (g0 g h : GuardView) (from at to : LinkView) (bytes rest : List ℕ) (count now : ℕ) (silence : _) (some : Bool) → some ≡ nat_lt 0 count
+pub counted_failed : (w0 w x y : WireView) (g0 g h : GuardView) (from at to : LinkView) (bytes rest : List ℕ) (count now : ℕ) (silence : _) (some : Bool) → some ≡ nat_lt 0 count
     → Sending (side w0 g0) (side w g) from at (take count bytes) (length bytes) count → NowStep w x now
-    → TakenStep (side x g) (side y h) at to rest silence taken.Failed → SentStep (side w0 g0) (side y h) from to bytes silence (sent.Failed some)
-sent_failed w0 w x y g0 g h from at to bytes rest count now silence some is s c t =
+    → TakenStep (side x g) (side y h) at to rest silence taken.Failed → CountedStep (side w0 g0) (side y h) from to bytes count silence (sent.Failed some)
+counted_failed w0 w x y g0 g h from at to bytes rest count now silence some is s c t =
     let taken = offered w0 w x y g0 g h from at (take count bytes) (length bytes) count now free (Acts (WriteFailed at.number ∷ [])) s c t.waited in
-    let as_long : some ≡ nat_lt 0 (length (take count bytes)) = is ∙ ap (λ n. nat_lt 0 n) (sym (length-take-le count bytes s.within)) in
     record {
-      waited = waited_map taken (λ l p. (take count bytes, drop count bytes, sym (take-append-drop count bytes), as_long, (p.0, p.1, p.2, p.3, rw (← s.link.number) p.4)));
+      within = s.within;
+      counted = is;
+      waited = waited_map taken (λ l p. (p.0, p.1, p.2, p.3, rw (← s.link.number) p.4));
       link = link_then from at to s.link t.link;
       cause = rose_from from.faults at.faults to.faults s.link.faults t.cause;
     }
 
-stop_cause : (g0 g h : GuardView) (moment : ℕ) (silence : _) (why : Stop) → g0.cancels ≤ g.cancels → g.deadline ≡ g0.deadline
+pub stop_cause : (g0 g h : GuardView) (moment : ℕ) (silence : _) (why : Stop) → g0.cancels ≤ g.cancels → g.deadline ≡ g0.deadline
     → StopCause g h moment silence why → StopCause g0 h moment silence why
 stop_cause g0 g h moment silence stops.Cancelled le same c = rose_from g0.cancels g.cancels h.cancels le c
 stop_cause g0 g h moment silence stops.Deadline le same c = rw (← same) c
 stop_cause g0 g h moment silence stops.Silent le same c = c
 stop_cause g0 g h moment silence stops.Ticks le same c = c
 
-pub sent_stopped : (w0 w x y : WireView) (g0 g h : GuardView) (from at to : LinkView) (bytes rest : List ℕ) (count now : ℕ) (silence : _) (why : Stop)
+pub counted_stopped : (w0 w x y : WireView) (g0 g h : GuardView) (from at to : LinkView) (bytes rest : List ℕ) (count now : ℕ) (silence : _) (why : Stop)
     → Sending (side w0 g0) (side w g) from at (take count bytes) (length bytes) count → NowStep w x now
-    → TakenStep (side x g) (side y h) at to rest silence (taken.Stopped why) → SentStep (side w0 g0) (side y h) from to bytes silence (sent.Stopped why)
-sent_stopped w0 w x y g0 g h from at to bytes rest count now silence why s c t =
+    → TakenStep (side x g) (side y h) at to rest silence (taken.Stopped why) → CountedStep (side w0 g0) (side y h) from to bytes count silence (sent.Stopped why)
+counted_stopped w0 w x y g0 g h from at to bytes rest count now silence why s c t =
     let taken = offered w0 w x y g0 g h from at (take count bytes) (length bytes) count now _ (Acts []) s c t.waited in
     record {
-      waited = waited_map taken (λ l p. (
-        take count bytes,
-        drop count bytes,
-        sym (take-append-drop count bytes),
-        subst (Writes from.number (take count bytes)) (sym (p.2 ∙ ap (λ b. p.0 ++ b) p.4 ∙ append-nil p.0)) p.3,
-      ));
+      within = s.within;
+      counted = tt;
+      waited = waited_map taken (λ l p. subst (Writes from.number (take count bytes)) (sym (p.2 ∙ ap (λ b. p.0 ++ b) p.4 ∙ append-nil p.0)) p.3);
       link = link_then from at to s.link t.link;
       cause = stop_cause g0 g h y.moment silence why s.waited.watched.goes.cancels s.waited.watched.goes.deadline t.cause;
     }
+
+-- what was counted is what was said
+says_front : (k : ℕ) (bytes : List ℕ) (count : ℕ) (said : Sent) (acts : List Act) → count ≤ length bytes → IsCounted bytes count said
+    → SaysFront k (take count bytes) said acts → Says k bytes said acts
+says_front k bytes count sent.All acts le is w = subst (λ (d : List ℕ). Writes k d acts) (ap (λ n. take n bytes) is ∙ take-length bytes) w
+says_front k bytes count (sent.Failed some) acts le is w = (
+  take count bytes,
+  drop count bytes,
+  sym (take-append-drop count bytes),
+  is ∙ ap (λ n. nat_lt 0 n) (sym (length-take-le count bytes le)),
+  w,
+)
+says_front k bytes count (sent.Stopped why) acts le is w = (take count bytes, drop count bytes, sym (take-append-drop count bytes), w)
+
+pub sent_of : (a b : Side) (from to : LinkView) (bytes : List ℕ) (count : ℕ) (silence : _) (said : Sent) → CountedStep a b from to bytes count silence said
+    → SentStep a b from to bytes silence said
+sent_of a b from to bytes count silence said s = record {
+  waited = waited_map s.waited (λ l w. says_front from.number bytes count said l s.within s.counted w);
+  link = s.link;
+  cause = s.cause;
+}
 
 -- what `&bytes[count..]` is
 pub rest_of : (bytes : List ℕ) (count : ℕ) → take (length bytes - count) (drop count bytes) ≡ drop count bytes

@@ -1,5 +1,5 @@
 -- Waits for a link beside a guard: rows of reads, or of writes, in which nothing comes or goes.
-use Rattle.std.specs.Prelude.{ℕ, ◌≡◌, ◌<◌, ◌≤◌, ◌+◌, ◌++◌, nat_lt, List, [], ◌∷◌, length, take, All, Option, Some, None}
+use Rattle.std.specs.Prelude.{ℕ, Bool, ◌||◌, ◌≡◌, ◌<◌, ◌≤◌, ◌+◌, ◌++◌, nat_lt, List, [], ◌∷◌, length, take, All, Option, Some, None}
 use Rattle.gw_wire.specs.declared.values.Act.{Act}
 use Rattle.gw_wire.specs.declared.values.Act.TheVariants.{Read, Wrote, ReadFailed, WriteFailed}
 use Rattle.gw_wire.specs.declared.values.Act.TheVariants.{End as LinkEnd}
@@ -170,6 +170,30 @@ abbrev pub SentCause : Side → Side → LinkView → LinkView → Option ℕ �
 SentCause old new from to silence sent.All = Unit {0}
 SentCause old new from to silence (sent.Failed some) = Rose from.faults to.faults
 SentCause old new from to silence (sent.Stopped why) = StopCause old.guard new.guard new.wire.moment silence why
+
+-- how a write ends behind another one that went whole, of some bytes or of none
+abbrev pub said_behind : Bool → Sent → Sent
+said_behind some sent.All = sent.All
+said_behind some (sent.Failed part) = sent.Failed (some || part)
+said_behind some (sent.Stopped why) = sent.Stopped why
+
+-- so many bytes were taken of those that were to be written
+abbrev pub SaysFront : ℕ → List ℕ → Sent → List Act → Type 0
+SaysFront link front sent.All acts = Writes link front acts
+SaysFront link front (sent.Failed some) acts = Then (Writes link front) (Acts (WriteFailed link ∷ [])) acts
+SaysFront link front (sent.Stopped why) acts = Writes link front acts
+
+abbrev pub IsCounted : List ℕ → ℕ → Sent → Type 0
+IsCounted bytes count sent.All = count ≡ length bytes
+IsCounted bytes count (sent.Failed some) = some ≡ nat_lt 0 count
+IsCounted bytes count (sent.Stopped why) = Unit {0}
+
+pub record CountedStep (old new : Side) (from to : LinkView) (bytes : List ℕ) (count : ℕ) (silence : Option ℕ) (result : Sent) : Type 0 where
+  pub within : count ≤ length bytes
+  pub counted : IsCounted bytes count result
+  pub waited : Waited old new (sent_bill silence result) (SaysFront from.number (take count bytes) result)
+  pub link : LinkLater from to
+  pub cause : SentCause old new from to silence result
 
 pub record SentStep (old new : Side) (from to : LinkView) (bytes : List ℕ) (silence : Option ℕ) (result : Sent) : Type 0 where
   pub waited : Waited old new (sent_bill silence result) (Says from.number bytes result)

@@ -11,6 +11,7 @@ mod laws;
 mod outbox;
 mod relaying;
 mod timer;
+mod together;
 mod waits;
 
 pub use beginning::{Began, first_piece};
@@ -21,8 +22,10 @@ pub use laws::{drawn_is_body, front_of_text, reads_are_taken, relays_follow, sid
 pub use outbox::Outbox;
 pub use relaying::{Incoming, Relayed, Silences, relay, write_whole};
 pub use timer::Timer;
+pub use together::write_together;
 pub use waits::{
-    Heard, Limit, Loss, Sent, Stop, Taken, read_some, read_within, write_all, write_within,
+    Heard, Limit, Loss, Sent, Stop, Taken, read_some, read_within, write_all, write_counted,
+    write_within,
 };
 
 #[cfg(test)]

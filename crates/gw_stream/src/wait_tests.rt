@@ -3,9 +3,11 @@
 ghost use Rattle.std.specs.Prelude.{◌≡◌, ◌≤◌, ◌<◌, IfOk, false};
 
 use crate::inbox::Inbox;
+use crate::outbox::Outbox;
 use crate::tests::{NOW, half_a_minute};
 use crate::timer::Timer;
-use crate::waits::{Heard, Limit, Loss, Sent, Stop, read_within, write_all};
+use crate::together::write_together;
+use crate::waits::{Heard, Limit, Loss, Sent, Stop, read_within, write_all, write_counted};
 use gw_wire::{Accept, Act, Bytes, ConnEvent, MemConn, MemWire, Moment, Script, Wire};
 use std::alloc::{AllocError, Global};
 use std::test::Fail;
@@ -155,6 +157,56 @@ fn writes_many_bytes(rt: HostRuntime) -> Result<(), Fail> {
     let mut guard = half_a_minute();
     guard.deadline = Some(NOW);
     assert_eq!(rt; say(alloc, vec![in alloc; 1]?, &mut guard)?, (late, 0));
+    Ok(())
+}
+
+/// How a write of `hello` and then `, you` ends on such a link, and how many writes it made.
+fn say_both(alloc: Global, takes: Vec<u32>, second: &[u8]) -> Result<(Sent, usize), AllocError> {
+    let mut wire = wire(alloc, NOW)?;
+    let mut conn = MemConn::new(7, Vec::new(alloc), takes);
+    let mut out = Outbox::new(alloc)?;
+    let sent = write_together(
+        &mut wire,
+        &mut half_a_minute(),
+        &mut conn,
+        b"hello",
+        second,
+        &mut out,
+        None,
+    );
+    Ok((sent, wire.acts().len()))
+}
+
+/// Two texts leave in one write where both fit into the outbox, and else in two.
+#[test]
+fn texts_leave_together(rt: HostRuntime) -> Result<(), Fail> {
+    let alloc = rt.alloc();
+    let large = vec![in alloc; b'x'; 200_000]?;
+    assert_eq!(rt; say_both(alloc, Vec::new(alloc), b", you")?, (Sent::All, 1));
+    assert_eq!(rt; say_both(alloc, Vec::new(alloc), &large)?, (Sent::All, 2));
+    assert_eq!(rt;
+        say_both(alloc, vec![in alloc; 5, 0]?, &large)?,
+        (Sent::Failed(true), 2)
+    );
+    Ok(())
+}
+
+/// A write that fails says how many bytes were taken.
+#[test]
+fn writes_are_counted(rt: HostRuntime) -> Result<(), Fail> {
+    let alloc = rt.alloc();
+    let mut wire = wire(alloc, NOW)?;
+    let mut conn = MemConn::new(7, Vec::new(alloc), vec![in alloc; 3, 1, 0]?);
+    let mut sent = 0;
+    let end = write_counted(
+        &mut wire,
+        &mut half_a_minute(),
+        &mut conn,
+        b"hello",
+        &mut sent,
+        None,
+    );
+    assert_eq!(rt; (end, sent), (Sent::Failed(true), 4));
     Ok(())
 }
 

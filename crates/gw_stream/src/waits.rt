@@ -4,7 +4,7 @@
 
 ghost use Rattle.std.specs.Prelude.{◌≡◌, ◌<◌, ◌≤◌, length, take, false};
 ghost use Rattle.gw_wire.specs.Wire.{NowStep};
-ghost use Rattle.gw_stream.specs.Waits.{CheckStep, HeardStep, SentStep, TakenStep, side};
+ghost use Rattle.gw_stream.specs.Waits.{CheckStep, CountedStep, HeardStep, SentStep, TakenStep, side};
 
 use crate::guard::{Guard, Sight};
 use gw_wire::{Read, Wire, Write};
@@ -208,11 +208,30 @@ pub fn write_all<W: Wire, G: Guard>(
     ensures guard { G.keeper guard.new ≡ G.keeper guard.old }
 {
     let mut sent = 0;
-    while sent < bytes.len() {
+    write_counted(wire, guard, conn, bytes, &mut sent, silence)
+}
+
+/// Writes all the bytes as `write_all` does, and says how many were taken, whatever came.
+pub fn write_counted<W: Wire, G: Guard>(
+    wire: &mut W,
+    guard: &mut G,
+    conn: &mut W::Conn,
+    bytes: &[u8],
+    sent: &mut usize,
+    silence: Option<u64>,
+) -> Sent
+    requires fresh { (W.wire wire.old).aged ≡ false }
+    requires looked { (G.guard guard.old).last ≤ (W.wire wire.old).moment }
+    requires none { sent.old ≡ 0 }
+    ensures step { CountedStep (side (W.wire wire.old) (G.guard guard.old)) (side (W.wire wire.new) (G.guard guard.new))
+        (W.Conn.link conn.old) (W.Conn.link conn.new) bytes.now sent.new silence result }
+    ensures guard { G.keeper guard.new ≡ G.keeper guard.old }
+{
+    while *sent < bytes.len() {
         let since = wire.now();
-        match write_within(wire, guard, conn, &bytes[sent..], Limit { since, silence }) {
-            Taken::Some(n) => sent += n,
-            Taken::Failed => return Sent::Failed(sent > 0),
+        match write_within(wire, guard, conn, &bytes[*sent..], Limit { since, silence }) {
+            Taken::Some(n) => *sent += n,
+            Taken::Failed => return Sent::Failed(*sent > 0),
             Taken::Stopped(stop) => return Sent::Stopped(stop),
         }
     }

@@ -1,24 +1,5 @@
-use Rattle.std.proofs.Common.{refl, ◌∙◌}
-use Rattle.gw_stream.proofs.SendLemmas.{rest_of, sending_begins, sending_more, sent_all, sent_failed, sent_stopped}
+use Rattle.gw_stream.proofs.SendLemmas.{sent_of}
 use Rattle.gw_stream.proofs.waits.write_all.Goals as goal
 
-pub loop-sent-init : goal.loop-sent-init
-loop-sent-init g c = (sending_begins _ _ _ c.args.bytes.now c.requires.fresh c.requires.looked, refl)
-
-pub loop-sent-preserved : goal.loop-sent-preserved
-loop-sent-preserved g c = (
-  sending_more _ _ _ _ _ _ _ _ _ _ c.args.bytes.now _ c.loop-sent.sent _ _ c.in-Some.n (rest_of c.args.bytes.now c.loop-sent.sent)
-      c.loop-sent.invariant.0 c.now-since.ensures c.in-Some.ensures.step,
-  c.in-Some.ensures.guard ∙ c.loop-sent.invariant.1,
-)
-
-pub returns-in-Failed-clause-step : goal.returns-in-Failed-clause-step
-returns-in-Failed-clause-step g c =
-    sent_failed _ _ _ _ _ _ _ _ _ _ c.args.bytes.now _ c.loop-sent.sent _ _ _ refl c.loop-sent.invariant.0 c.now-since.ensures c.in-Failed.ensures.step
-
-pub returns-in-Stopped-clause-step : goal.returns-in-Stopped-clause-step
-returns-in-Stopped-clause-step g c =
-    sent_stopped _ _ _ _ _ _ _ _ _ _ c.args.bytes.now _ c.loop-sent.sent _ _ c.in-Stopped.stop c.loop-sent.invariant.0 c.now-since.ensures c.in-Stopped.ensures.step
-
 pub returns-clause-step : goal.returns-clause-step
-returns-clause-step g c = sent_all _ _ _ _ c.args.bytes.now c.loop-sent.sent _ c.loop-sent-test.false c.loop-sent.invariant.0
+returns-clause-step g c = sent_of _ _ _ _ _ _ _ _ c.write_counted.ensures.step

@@ -1,7 +1,7 @@
 use Rattle.std.proofs.Common.{◌≡◌, ◌-◌, length, take}
 use Rattle.gw_stream.specs.Waits.{side}
 use Rattle.gw_stream.proofs.SendLemmas.{Sending}
-use Rattle.gw_stream.proofs.waits.write_all.Given as goal
+use Rattle.gw_stream.proofs.waits.write_counted.Given as goal
 
 abbrev pub invariant-loop-sent : goal.invariant-loop-sent
 invariant-loop-sent g l =
