@@ -3,6 +3,7 @@ mod CallLemmas
 mod DialLemmas
 mod EndLemmas
 mod FailLemmas
+mod HeadLemmas
 mod LeaseLemmas
 mod RestLemmas
 mod SeqLemmas

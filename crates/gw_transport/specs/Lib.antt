@@ -3,3 +3,4 @@ pub mod Parts
 pub mod Leasing
 pub mod Attempts
 pub mod Watch
+pub mod Replying

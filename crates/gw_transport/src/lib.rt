@@ -3,6 +3,7 @@
 
 mod attempts;
 mod leasing;
+mod replying;
 mod watch;
 
 pub use attempts::{Attempt, Attempted, Errand, Tried, make_trip};
