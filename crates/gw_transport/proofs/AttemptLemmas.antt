@@ -110,16 +110,6 @@ trying_more {R = R} {E = E} link Does errand old x y z u a b c d f g h k m mid t
       few = below_eight why l.reused errand.method errand.has_key errand.body (n + 1) may;
     }
 
--- behind a failure that another attempt may follow, the attempt is ready again, with a body of the same kind
-pub again_ready : {M : Type 0} (Ready : M → Type 0) (body : M → BodyKind) (mid to : M) (why : Failure) (errand : ErrandView) (reused : Bool) (n : ℕ)
-    → body mid ≡ errand.body → (body to ≡ body mid) × (is_repeatable (body mid) ≡ true → Ready to)
-    → may_retry_of why reused errand.method errand.has_key errand.body (n + 1) ≡ true → Ready to × (body to ≡ errand.body)
-again_ready Ready body mid to why errand reused n same again go =
-    let kind : is_repeatable errand.body ≡ true =
-    (and_parts (is_repeatable errand.body) (is_passing why (only_reads errand.method || errand.has_key))
-    (and_parts (reused && nat_lt (n + 1) 8) (is_repeatable errand.body && is_passing why (only_reads errand.method || errand.has_key)) go).1).0 in
-    (again.1 (ap is_repeatable same ∙ kind), again.0 ∙ same)
-
 -- a lease stays one whose connection was used
 pub with_conn : {C : Type 0} (link : C → LinkView) (a : Lent) (l : Lease C) (conn : C) → IsLeased link a l → (link conn).number ≡ (link l.conn).number
     → IsLeased link a (record l { conn = conn })
@@ -177,7 +167,7 @@ late_later Lateness.ByExpired d e m n same le k = tt
 late_later Lateness.ByTicks d e m n same le k = tt
 
 -- a failure's cause stands where it is looked at from an earlier guard and a later moment
-failure_from : (f g h : GuardView) (m n : ℕ) (late : Lateness) (why : Failure) → f.cancels ≤ g.cancels → g.deadline ≡ f.deadline → m ≤ n
+pub failure_from : (f g h : GuardView) (m n : ℕ) (late : Lateness) (why : Failure) → f.cancels ≤ g.cancels → g.deadline ≡ f.deadline → m ≤ n
     → FailureCause g h m late why → FailureCause f h n late why
 failure_from f g h m n late failure.Cancelled more same le k = rose_from f.cancels g.cancels h.cancels more k
 failure_from f g h m n late failure.Deadline more same le k = late_later late f.deadline g.deadline m n same le k

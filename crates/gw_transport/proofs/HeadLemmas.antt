@@ -1,5 +1,5 @@
 -- Steps of a wait for a reply's head, over plain variables.
-use Rattle.std.proofs.Common.{ℕ, zero, suc, ◌≡◌, ◌≤◌, ◌<◌, ◌+◌, false, not, nat_lt, List, [], ◌∷◌, ◌++◌, length, take, drop, ◌==◌, refl, ap, sym, subst, ◌∙◌, arith, inl, inr, append_assoc, append-nil, length-append, ne_eqb}
+use Rattle.std.proofs.Common.{ℕ, zero, suc, ◌≡◌, ◌≤◌, ◌<◌, ◌+◌, false, not, nat_lt, List, [], ◌∷◌, ◌++◌, length, take, drop, None, ◌==◌, refl, ap, sym, subst, ◌∙◌, arith, inl, inr, append_assoc, append-nil, length-append, ne_eqb}
 use Rattle.std.proofs.Math.Seq.{drop-length}
 use Rattle.std.proofs.lemmas.Bool.{lt-ltb}
 use Rattle.std.proofs.lemmas.List.{take-append-drop}
@@ -91,14 +91,14 @@ nothing_of [] empty e = rw e refl
 nothing_of (b ∷ bytes) empty e = rw (e, ne_eqb (length (b ∷ bytes)) 0 (omega arith)) (sym (lt-ltb 0 (length (b ∷ bytes)) (omega arith)))
 
 pub hearing_lost : (a b c : Side) (from at to : LinkView) (first stream ahead piece kept left : List ℕ) (pieces used : ℕ) (stage : Stage) (empty : _) (why : Loss)
-    → Hearing a b from at first stream ahead pieces → Undecided stream ahead used stage → HeardStep b c at to piece _ (got.Lost why)
+    → Hearing a b from at first stream ahead pieces → Undecided stream ahead used stage → HeardStep b c at to piece None (got.Lost why)
     → kept ≡ stream ++ ahead → empty ≡ (length kept == 0) → HeadStep a c from to first left (heard.Lost why (not empty))
 hearing_lost a b c from at to first stream ahead piece kept left pieces used stage empty why h u t is none =
     let joined = waited_then h.waited t.waited in
     let k : ℕ = from.number in
     let T : List Act → Type 0 = Then (HearsHead k first (stream ++ ahead)) (Acts (loss_acts k why)) in
     record {
-      waited = subst (λ u. Waited a c u (HearsFor k first left (heard.Lost why (not empty)))) (free_both (loss_bill _ why))
+      waited = subst (λ u. Waited a c u (HearsFor k first left (heard.Lost why (not empty)))) (free_both (loss_bill None why))
           (waited_map joined (λ l p. (
             stream ++ ahead,
             u.undecided,
@@ -106,7 +106,7 @@ hearing_lost a b c from at to first stream ahead piece kept left pieces used sta
             (p.0, p.1, p.2, p.3, p.4 ∙ ap (λ n. loss_acts n why) h.link.number),
           )));
       link = link_then from at to h.link t.link;
-      cause = loss_within a b c c from at to _ why (goes_waited h.waited) (goes_same c) h.link t.cause.0;
+      cause = loss_within a b c c from at to None why (goes_waited h.waited) (goes_same c) h.link t.cause.0;
     }
 
 -- a head ended

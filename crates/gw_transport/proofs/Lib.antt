@@ -5,7 +5,9 @@ mod EndLemmas
 mod FailLemmas
 mod HeadLemmas
 mod LeaseLemmas
+mod ReplyLemmas
 mod RestLemmas
+mod SendingLemmas
 mod SeqLemmas
 mod StretchLemmas
 mod WaitLemmas

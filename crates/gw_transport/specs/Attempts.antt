@@ -1,5 +1,5 @@
 -- The attempts of a trip, whatever one attempt does: `Does` is the fact on its stretch of work.
-use Rattle.std.specs.Prelude.{ℕ, zero, suc, ◌≡◌, ◌≤◌, ◌<◌, ◌⊎◌, Bool, true, false, List}
+use Rattle.std.specs.Prelude.{ℕ, zero, suc, ◌≡◌, ◌≤◌, ◌<◌, ◌⊎◌, Bool, true, false, List, [], ◌∷◌}
 use Rattle.gw_wire.specs.declared.values.Addr.{Addr}
 use Rattle.gw_wire.specs.Causes.{Rose}
 use Rattle.gw_wire.specs.Link.{LinkView}
@@ -7,14 +7,15 @@ use Rattle.gw_wire.specs.Wire.{WireView}
 use Rattle.gw_pool.specs.declared.rows.ConnRow.{ConnRow}
 use Rattle.gw_pool.specs.Lent.{Lent, row_of}
 use Rattle.gw_retry.specs.declared.BodyKind.{BodyKind}
+use Rattle.gw_retry.specs.declared.BodyKind.TheVariants as kind
 use Rattle.gw_retry.specs.declared.Failure.{Failure}
 use Rattle.gw_retry.specs.declared.Failure.TheVariants as failure
-use Rattle.gw_retry.specs.Retry.{is_repeatable, may_retry_of}
+use Rattle.gw_retry.specs.Retry.{may_retry_of}
 use Rattle.gw_account.specs.Did.{Span, Went}
 use Rattle.gw_account.specs.Work.{Work, At, free, Seq}
 use Rattle.gw_transport.specs.declared.attempts.Attempted.{Attempted}
 use Rattle.gw_transport.specs.declared.attempts.Attempted.TheVariants as attempted
-use Rattle.gw_transport.specs.declared.attempts.Errand.{Errand}
+use Rattle.gw_transport.specs.declared.attempts.Order.{Order}
 use Rattle.gw_transport.specs.declared.attempts.Tried.{Tried}
 use Rattle.gw_transport.specs.declared.attempts.Tried.TheVariants as tried
 use Rattle.gw_stream.specs.Guard.{GuardView}
@@ -31,8 +32,19 @@ pub record ErrandView : Type 0 where
   pub has_key : Bool
   pub body : BodyKind
 
-abbrev pub errand_of : Errand → ErrandView
-errand_of errand = record { host = errand.host; backend = errand.addr.now; method = errand.method.now; has_key = errand.has_key; body = errand.body }
+abbrev pub kind_of : List ℕ → BodyKind
+kind_of [] = kind.Empty
+kind_of (b ∷ d) = kind.Rewindable
+
+-- of an order with a body that is kept
+abbrev pub errand_of : Order → List ℕ → ErrandView
+errand_of order body = record {
+  host = order.host;
+  backend = order.addr.now;
+  method = order.out.now.method;
+  has_key = order.out.now.has_key;
+  body = kind_of body;
+}
 
 -- whether another attempt may follow the one of this number, counted from 1, that failed on this connection
 abbrev pub may_go_on : ErrandView → Failure → ConnRow → ℕ → Bool
@@ -60,12 +72,6 @@ pub record AttemptStep {R E : Type 0} (old new : WireView) (from to : GuardView)
   pub went : Went old new (does late)
   pub watched : Watched old new from to
   pub cause : TriedCause from to new.moment late result
-
--- behind a failure an attempt can be made again where the body can be sent again
-abbrev pub IsReadyAgain : {M R E : Type 0} → (M → Type 0) → (M → BodyKind) → M → M → Tried R E → Type 0
-IsReadyAgain Ready body from to (tried.Reply r) = Unit {0}
-IsReadyAgain Ready body from to (tried.Failed why) = (body to ≡ body from) × (is_repeatable (body from) ≡ true → Ready to)
-IsReadyAgain Ready body from to (tried.Over e) = Unit {0}
 
 -- ---- attempts one after another
 

@@ -4,3 +4,4 @@ pub mod Leasing
 pub mod Attempts
 pub mod Watch
 pub mod Replying
+pub mod Sending

@@ -1,18 +1,35 @@
 -- A reply's head as it comes of a backend's link, behind informational replies, which are dropped (RFC 9110, section 15.2).
 use Rattle.std.specs.Prelude.{ℕ, zero, suc, ◌≡◌, ◌<◌, ◌≤◌, ◌⊎◌, Bool, true, false, ◌&&◌, not, ◌==◌, List, [], ◌∷◌, ◌++◌, length, nat_le, nat_lt, Option, None}
 use Rattle.gw_wire.specs.declared.values.Act.{Act}
+use Rattle.gw_wire.specs.declared.values.Act.TheVariants.{ReadFailed}
+use Rattle.gw_wire.specs.declared.values.Act.TheVariants.{End as LinkEnd}
 use Rattle.gw_wire.specs.Link.{LinkView, LinkLater}
 use Rattle.gw_wire.specs.Stretch.{Acts, Then}
 use Rattle.gw_head.specs.declared.error.HeadError.{HeadError}
 use Rattle.gw_head.specs.declared.reply.ReplyHead.{ReplyHead}
 use Rattle.gw_head.specs.Head.{ReplyHeadOf, BadReplyHead}
 use Rattle.gw_head.specs.Stage.{IsTooLong, IsUndecided}
+use Rattle.gw_body.specs.declared.place.Place.{Place}
+use Rattle.gw_body.specs.Framing.{reply_framing_of}
+use Rattle.gw_body.specs.Places.{begins}
+use Rattle.gw_retry.specs.declared.Failure.{Failure}
+use Rattle.gw_retry.specs.declared.Failure.TheVariants as failure
 use Rattle.gw_account.specs.Work.{Bill, free}
 use Rattle.gw_stream.specs.declared.waits.Loss.{Loss}
+use Rattle.gw_stream.specs.declared.waits.Loss.TheVariants as loss
+use Rattle.gw_stream.specs.declared.waits.Stop.{Stop}
+use Rattle.gw_stream.specs.declared.waits.Stop.TheVariants as stops
 use Rattle.gw_stream.specs.Drawing.{HearsWhile}
 use Rattle.gw_stream.specs.Waits.{Side, LossCause, Waited, loss_acts, loss_bill}
 use Rattle.gw_transport.specs.declared.replying.HeadHeard.{HeadHeard}
 use Rattle.gw_transport.specs.declared.replying.HeadHeard.TheVariants as heard
+use Rattle.gw_transport.specs.declared.attempts.Tried.{Tried}
+use Rattle.gw_transport.specs.declared.attempts.Tried.TheVariants as tried
+use Rattle.gw_transport.specs.declared.replying.Begun.{Begun}
+use Rattle.gw_transport.specs.declared.replying.End.{End}
+use Rattle.gw_transport.specs.declared.replying.End.TheVariants as end
+use Rattle.gw_transport.specs.Attempts.{TriedCause}
+use Rattle.gw_transport.specs.Leasing.{Lateness}
 
 -- ---- one head
 
@@ -110,13 +127,96 @@ abbrev pub RefusesReply : ℕ → List Act → Type 0
 RefusesReply link acts = (bytes : List ℕ) × IsBadReply bytes × HearsReply link bytes acts
 
 -- nothing more came before the final head was whole, behind so many informational heads and these bytes
-pub record LosesReply (link count : ℕ) (behind : List ℕ) (why : Loss) (acts : List Act) : Type 0 where
+pub record LosesReply (link count : ℕ) (behind : List ℕ) (ending acts : List Act) : Type 0 where
   pub front : List ℕ
   pub few : count ≤ 5
   pub informs : Informs count front
   pub undecided : IsUndecided behind
-  pub hears : Then (HearsReply link (front ++ behind)) (Acts (loss_acts link why)) acts
+  pub hears : Then (HearsReply link (front ++ behind)) (Acts ending) acts
 
 -- a byte of the reply came before
 abbrev pub IsAnswering : ℕ → List ℕ → Type 0
 IsAnswering count behind = (0 < count) ⊎ (0 < length behind)
+
+-- how a reply fails to begin
+abbrev pub FailsToReply : ℕ → Failure → List Act → Type 0
+FailsToReply link failure.NothingWritten acts = ⊥
+FailsToReply link failure.FirstByte acts = LosesReply link 0 [] (ReadFailed link ∷ []) acts
+FailsToReply link failure.ServerClosed acts = LosesReply link 0 [] (LinkEnd link ∷ []) acts
+FailsToReply link failure.Broken acts =
+    (count : ℕ) × (behind : List ℕ) × IsAnswering count behind
+    × (LosesReply link count behind (LinkEnd link ∷ []) acts ⊎ LosesReply link count behind (ReadFailed link ∷ []) acts)
+FailsToReply link failure.BadResponse acts = RefusesReply link acts
+FailsToReply link failure.Deadline acts = (count : ℕ) × (behind : List ℕ) × LosesReply link count behind [] acts
+FailsToReply link failure.Cancelled acts = (count : ℕ) × (behind : List ℕ) × LosesReply link count behind [] acts
+
+-- what was read of a backend that was written a whole request with this method; behind a reply that begins its body is
+-- read from its first place on, and `left` is ahead
+abbrev pub Replies : ℕ → List ℕ → Place → List ℕ → Tried Begun End → List Act → Type 0
+Replies link method place left (tried.Reply r) acts =
+    (r.framing ≡ reply_framing_of r.head method) × (place ≡ begins r.framing) × BeginsReply link r.head left acts
+Replies link method place left (tried.Failed why) acts = FailsToReply link why acts
+Replies link method place left (tried.Over end.NoMemory) acts = (bytes : List ℕ) × HearsReply link bytes acts
+Replies link method place left (tried.Over end.ClientEnd) acts = ⊥
+Replies link method place left (tried.Over end.ClientFailed) acts = ⊥
+Replies link method place left (tried.Over end.ClientTimeout) acts = ⊥
+Replies link method place left (tried.Over (end.Body error)) acts = ⊥
+
+-- ---- what an attempt was late by
+
+-- by its deadline, or by the ticks of a wait
+abbrev pub IsOfWait : Lateness → Type 0
+IsOfWait Lateness.ByDeadline = Unit {0}
+IsOfWait Lateness.ByRests = ⊥
+IsOfWait Lateness.ByExpired = ⊥
+IsOfWait Lateness.ByTicks = Unit {0}
+
+abbrev pub late_bill : Lateness → Bill
+late_bill Lateness.ByDeadline = free
+late_bill Lateness.ByRests = free
+late_bill Lateness.ByExpired = free
+late_bill Lateness.ByTicks = record free { ticks = 1000000 }
+
+-- what a failure costs
+abbrev pub failure_bill : Lateness → Failure → Bill
+failure_bill late failure.NothingWritten = free
+failure_bill late failure.FirstByte = free
+failure_bill late failure.ServerClosed = free
+failure_bill late failure.Broken = free
+failure_bill late failure.BadResponse = free
+failure_bill late failure.Deadline = late_bill late
+failure_bill late failure.Cancelled = free
+
+abbrev pub tried_bill : {R E : Type 0} → Lateness → Tried R E → Bill
+tried_bill late (tried.Reply r) = free
+tried_bill late (tried.Failed why) = failure_bill late why
+tried_bill late (tried.Over e) = free
+
+-- a reply was waited for
+pub record ReplyStep (old new : Side) (from to : LinkView) (method : List ℕ) (place : Place) (left : List ℕ) (result : Tried Begun End) : Type 0 where
+  pub late : Lateness
+  pub of_wait : IsOfWait late
+  pub waited : Waited old new (tried_bill late result) (Replies from.number method place left result)
+  pub link : LinkLater from to
+  pub cause : TriedCause old.guard new.guard new.wire.moment late result
+
+-- ---- on the way
+
+-- the failure that a lost link is, where a byte of the reply had come or not; nothing is said of a backend's silence
+abbrev pub stopped_by : Stop → Failure
+stopped_by stops.Cancelled = failure.Cancelled
+stopped_by stops.Deadline = failure.Deadline
+stopped_by stops.Silent = failure.Deadline
+stopped_by stops.Ticks = failure.Deadline
+
+abbrev pub lost_by : Loss → Bool → Failure
+lost_by loss.End true = failure.Broken
+lost_by loss.End false = failure.ServerClosed
+lost_by loss.Failed true = failure.Broken
+lost_by loss.Failed false = failure.FirstByte
+lost_by (loss.Stopped why) answering = stopped_by why
+
+-- the failure that a failed write of a request is, of which some byte was taken or none
+abbrev pub unwritten : Bool → Failure
+unwritten true = failure.Broken
+unwritten false = failure.NothingWritten

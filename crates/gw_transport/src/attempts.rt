@@ -1,21 +1,24 @@
 //! The attempts of a trip: each on a connection of its own, the next one only where the request may be sent again.
 
-ghost use Rattle.std.specs.Prelude.{◌≡◌, ◌≤◌, ◌<◌, ℕ, false};
-ghost use Rattle.gw_retry.specs.declared.BodyKind.{BodyKind};
+ghost use Rattle.std.specs.Prelude.{◌≡◌, ◌≤◌, ◌<◌, false};
 ghost use Rattle.gw_account.specs.Did.{span};
-ghost use Rattle.gw_account.specs.Work.{At, Work};
-ghost use Rattle.gw_transport.specs.declared.attempts.Tried.{Tried};
-ghost use Rattle.gw_transport.specs.Attempts.{AttemptStep, AttemptedBy, AttemptedStep, IsReadyAgain, TripStep, errand_of};
-ghost use Rattle.gw_transport.specs.Leasing.{IsRested, Lateness};
+ghost use Rattle.gw_transport.specs.Attempts.{AttemptedBy, AttemptedStep, TripStep, errand_of};
+ghost use Rattle.gw_transport.specs.Leasing.{IsRested};
+ghost use Rattle.gw_transport.specs.Sending.{ExchangesKept, IsKept, kept_view};
 
+use crate::buffers::Buffers;
 use crate::leasing::{Leased, close_expired, end_lease, lease};
+use crate::replying::{Begun, End};
+use crate::sending::{exchange, kind_of_body};
+use gw_body::Rewindable;
 use gw_pool::{Lease, Leases};
-use gw_retry::{BodyKind, Failure, MAX_ATTEMPTS, may_retry};
+use gw_proxy::OutHead;
+use gw_retry::{Failure, MAX_ATTEMPTS, may_retry};
 use gw_stream::Guard;
 use gw_wire::{Addr, Wire};
-use http::Method;
 
 /// What one attempt came to.
+#[derive(Debug, Drop)]
 pub enum Tried<R, E> {
     /// A reply, for whose body the connection is kept.
     Reply(R),
@@ -25,64 +28,20 @@ pub enum Tried<R, E> {
     Over(E),
 }
 
-/// What an attempt to exchange a request for a reply does on a connection. Contracts see it by its `meaning`, and what it
-/// did by a fact on the stretch of work, `Does`. It must be `Ready` before; behind a failure it is ready again where the
-/// body can be sent once more. What no attempt changes of an implementer is its `keeper`.
-pub trait Attempt<W: Wire, G: Guard> {
-    type Reply;
-
-    type End;
-
-    ghost Meaning: { Type 0 };
-
-    ghost meaning: { Self → Meaning };
-
-    ghost Keeper: { Type 0 };
-
-    ghost keeper: { Self → Keeper };
-
-    ghost Ready: { Meaning → Type 0 };
-
-    ghost body: { Meaning → BodyKind };
-
-    ghost Does: { Meaning → Meaning → ℕ → Tried Self.Reply Self.End → Lateness → At → Work → Type 0 };
-
-    /// Sends the request and awaits the reply. The wire is not aged, neither before nor behind.
-    fn attempt(
-        &mut self,
-        wire: &mut W,
-        conn: &mut W::Conn,
-        guard: &mut G,
-    ) -> Tried<Self::Reply, Self::End>
-        requires fresh { (W.wire wire.old).aged ≡ false }
-        requires looked { (G.guard guard.old).last ≤ (W.wire wire.old).moment }
-        requires ready { Ready (meaning self.old) }
-        ensures step { AttemptStep (W.wire wire.old) (W.wire wire.new) (G.guard guard.old) (G.guard guard.new)
-            (Does (meaning self.old) (meaning self.new) (W.Conn.link conn.old).number result) result }
-        ensures again { IsReadyAgain Ready body (meaning self.old) (meaning self.new) result }
-        ensures link { (W.Conn.link conn.new).number ≡ (W.Conn.link conn.old).number }
-        ensures stays { keeper self.new ≡ keeper self.old }
-        ensures guard { G.keeper guard.new ≡ G.keeper guard.old };
-}
-
-/// Where a request goes, and what says whether it may be sent again.
+/// Where a request goes.
 #[derive(Clone, Copy)]
-pub struct Errand<'a> {
+pub struct Order<'a> {
+    /// Its head, and what says whether it may be sent again.
+    pub out: &'a OutHead,
     /// The backend's number among the pool's hosts.
     pub host: u32,
     /// The backend's address.
     pub addr: &'a Addr,
-    /// The request's method.
-    pub method: &'a Method,
-    /// Whether the request has a field `Idempotency-Key` or `X-Idempotency-Key`.
-    pub has_key: bool,
-    /// Whether its body can be sent a second time.
-    pub body: BodyKind,
 }
 
 /// What a trip's attempts came to.
 pub enum Attempted<C, R, E> {
-    /// The last one has a reply, and its connection is kept for the reply's body: `end_lease` ends the lease.
+    /// The last one has a reply, and its connection is kept for the reply's body: `finish` ends the lease.
     Reply(Lease<C>, R),
     /// The last one failed, or no further connection came since the trip was cancelled or late.
     Failed(Failure),
@@ -94,28 +53,35 @@ pub enum Attempted<C, R, E> {
     Full,
 }
 
+/// What a trip to a backend came to.
+pub type Trip<C> = Attempted<C, Begun, End>;
+
 // Attempts one after another, each on a connection of its own, eight at most.
-fn make_attempts<W: Wire, L: Leases<W::Conn>, G: Guard, A: Attempt<W, G>>(
+fn make_attempts<W: Wire, L: Leases<W::Conn>, G: Guard>(
     wire: &mut W,
     leases: &mut L,
     guard: &mut G,
-    attempt: &mut A,
-    errand: &Errand<'_>,
-) -> Attempted<W::Conn, A::Reply, A::End>
+    order: &Order<'_>,
+    body: &Rewindable,
+    buffers: &mut Buffers,
+) -> Attempted<W::Conn, Begun, End>
     requires fresh { (W.wire wire.old).aged ≡ false }
     requires looked { (G.guard guard.old).last ≤ (W.wire wire.old).moment }
     requires rested { IsRested (L.lent leases.old) }
-    requires within { errand.now.host < (L.lent leases.old).limits.hosts }
-    requires ready { A.Ready (A.meaning attempt.old) }
-    requires body { A.body (A.meaning attempt.old) ≡ errand.now.body }
+    requires within { order.now.host < (L.lent leases.old).limits.hosts }
+    requires kept { IsKept order.now.out.now.framing body.now }
+    requires room { 6 ≤ buffers.old.out.size }
     ensures step { AttemptedStep W.Conn.link (span (W.wire wire.old) (W.wire wire.new) (L.lent leases.old) (L.lent leases.new)) (G.guard guard.old) (G.guard guard.new)
-        (AttemptedBy A.Does (errand_of errand.now) (A.meaning attempt.old) (A.meaning attempt.new) result) result }
+        (AttemptedBy ExchangesKept (errand_of order.now body.now) (kept_view order.now.out.now body.now buffers.old.backend buffers.old.out.size)
+        (kept_view order.now.out.now body.now buffers.new.backend buffers.new.out.size) result) result }
     ensures leases { L.keeper leases.new ≡ L.keeper leases.old }
     ensures guard { G.keeper guard.new ≡ G.keeper guard.old }
-    ensures attempt { A.keeper attempt.new ≡ A.keeper attempt.old }
+    ensures client { buffers.new.client ≡ buffers.old.client }
+    ensures room { buffers.new.out.size ≡ buffers.old.out.size }
 {
+    let kind = kind_of_body(body);
     for made in 0..MAX_ATTEMPTS {
-        let mut got = match lease(wire, leases, guard, errand.host, errand.addr) {
+        let mut got = match lease(wire, leases, guard, order.host, order.addr) {
             Leased::Lease(got) => got,
             Leased::Unreachable => return Attempted::Unreachable,
             Leased::Full => return Attempted::Full,
@@ -123,7 +89,7 @@ fn make_attempts<W: Wire, L: Leases<W::Conn>, G: Guard, A: Attempt<W, G>>(
             Leased::Late => return Attempted::Failed(Failure::Deadline),
         };
         let reused = got.reused;
-        match attempt.attempt(wire, &mut got.conn, guard) {
+        match exchange(wire, guard, &mut got.conn, order.out, body, buffers) {
             Tried::Reply(reply) => return Attempted::Reply(got, reply),
             Tried::Over(end) => {
                 end_lease(wire, leases, got, false);
@@ -134,9 +100,9 @@ fn make_attempts<W: Wire, L: Leases<W::Conn>, G: Guard, A: Attempt<W, G>>(
                 if !may_retry(
                     why,
                     reused,
-                    errand.method,
-                    errand.has_key,
-                    errand.body,
+                    &order.out.method,
+                    order.out.has_key,
+                    kind,
                     made + 1,
                 ) {
                     return Attempted::Failed(why);
@@ -147,29 +113,33 @@ fn make_attempts<W: Wire, L: Leases<W::Conn>, G: Guard, A: Attempt<W, G>>(
     unreachable!()
 }
 
-/// Makes a trip: closes the connection that was idle longest where it is expired, and then makes attempts, each on a
-/// connection of its own. Another one follows exactly where the request may be sent again; eight are made at most. The
-/// lease of an attempt without a reply is dropped, and its connection closed.
-pub fn make_trip<W: Wire, L: Leases<W::Conn>, G: Guard, A: Attempt<W, G>>(
+/// Makes a trip of a request whose body is kept: closes the connection that was idle longest where it is expired, and then
+/// makes attempts, each on a connection of its own. Another one follows exactly where the request may be sent again; eight
+/// are made at most. The lease of an attempt without a reply is dropped, and its connection closed. Behind a reply its body
+/// is that of `buffers.backend`. A body that is kept has the length that the head says.
+pub fn round_trip<W: Wire, L: Leases<W::Conn>, G: Guard>(
     wire: &mut W,
     leases: &mut L,
     guard: &mut G,
-    attempt: &mut A,
-    errand: &Errand<'_>,
-) -> Attempted<W::Conn, A::Reply, A::End>
+    order: &Order<'_>,
+    body: &Rewindable,
+    buffers: &mut Buffers,
+) -> Attempted<W::Conn, Begun, End>
     requires fresh { (W.wire wire.old).aged ≡ false }
     requires looked { (G.guard guard.old).last ≤ (W.wire wire.old).moment }
     requires rested { IsRested (L.lent leases.old) }
-    requires within { errand.now.host < (L.lent leases.old).limits.hosts }
-    requires ready { A.Ready (A.meaning attempt.old) }
-    requires body { A.body (A.meaning attempt.old) ≡ errand.now.body }
+    requires within { order.now.host < (L.lent leases.old).limits.hosts }
+    requires kept { IsKept order.now.out.now.framing body.now }
+    requires room { 6 ≤ buffers.old.out.size }
     ensures step { TripStep W.Conn.link (span (W.wire wire.old) (W.wire wire.new) (L.lent leases.old) (L.lent leases.new)) (G.guard guard.old) (G.guard guard.new)
-        (AttemptedBy A.Does (errand_of errand.now) (A.meaning attempt.old) (A.meaning attempt.new) result) result }
+        (AttemptedBy ExchangesKept (errand_of order.now body.now) (kept_view order.now.out.now body.now buffers.old.backend buffers.old.out.size)
+        (kept_view order.now.out.now body.now buffers.new.backend buffers.new.out.size) result) result }
     ensures leases { L.keeper leases.new ≡ L.keeper leases.old }
     ensures guard { G.keeper guard.new ≡ G.keeper guard.old }
-    ensures attempt { A.keeper attempt.new ≡ A.keeper attempt.old }
+    ensures client { buffers.new.client ≡ buffers.old.client }
+    ensures room { buffers.new.out.size ≡ buffers.old.out.size }
 {
     let now = wire.now();
     close_expired(wire, leases, now);
-    make_attempts(wire, leases, guard, attempt, errand)
+    make_attempts(wire, leases, guard, order, body, buffers)
 }

@@ -2,12 +2,16 @@
 #![tactic(auto)]
 
 mod attempts;
+mod buffers;
 mod leasing;
 mod replying;
+mod sending;
 mod watch;
 
-pub use attempts::{Attempt, Attempted, Errand, Tried, make_trip};
+pub use attempts::{Attempted, Order, Tried, Trip, round_trip};
+pub use buffers::{Buffers, NoMemory};
 pub use leasing::{Leased, close_expired, end_lease, lease};
+pub use replying::{Begun, End};
 pub use watch::{Watch, first_deadline_is_least};
 
 #[cfg(test)]

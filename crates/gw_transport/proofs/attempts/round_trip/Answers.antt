@@ -1,5 +1,5 @@
 use Rattle.gw_transport.proofs.AttemptLemmas.{trip_made}
-use Rattle.gw_transport.proofs.attempts.make_trip.Goals as goal
+use Rattle.gw_transport.proofs.attempts.round_trip.Goals as goal
 
 pub returns-clause-step : goal.returns-clause-step
 returns-clause-step g c =
