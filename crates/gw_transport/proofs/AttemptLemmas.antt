@@ -1,5 +1,5 @@
 -- Attempts one after another.
-use Rattle.std.proofs.Common.{ℕ, zero, suc, ◌≡◌, ◌≤◌, ◌<◌, ◌+◌, ◌&&◌, ◌||◌, Bool, true, false, ◌⊎◌, List, [], ◌++◌, Option, Some, None, nat_lt, refl, ap, sym, subst, ◌∙◌, arith, append_assoc, inl, inr}
+use Rattle.std.proofs.Common.{ℕ, suc, ◌≡◌, ◌≤◌, ◌<◌, ◌+◌, ◌&&◌, ◌||◌, Bool, true, false, ◌⊎◌, List, ◌++◌, Option, Some, None, nat_lt, refl, ap, sym, subst, ◌∙◌, arith, append_assoc, inl, inr}
 use Rattle.std.proofs.lemmas.Bool.{and_parts, ltb-true}
 use Rattle.gw_wire.specs.Link.{LinkView}
 use Rattle.gw_wire.specs.Wire.{WireView, NowStep}
@@ -23,9 +23,9 @@ use Rattle.gw_transport.specs.declared.attempts.Attempted.TheVariants as attempt
 use Rattle.gw_transport.specs.declared.attempts.Tried.{Tried}
 use Rattle.gw_transport.specs.declared.attempts.Tried.TheVariants as tried
 use Rattle.gw_transport.specs.declared.leasing.Leased.TheVariants as leased
-use Rattle.gw_transport.specs.Attempts.{AttemptStep, AttemptedBy, AttemptedCause, AttemptedStep, Behind, ErrandView, FailureCause, FailedOnce, Misses, Retries, Tries, TriesInVain, TripStep, may_go_on}
+use Rattle.gw_transport.specs.Attempts.{AttemptStep, AttemptedBy, AttemptedStep, Behind, ErrandView, FailureCause, FailedOnce, Misses, Retries, Tries, TriesInVain, TripStep}
 use Rattle.gw_stream.specs.Guard.{GuardView, IsDue}
-use Rattle.gw_transport.specs.Leasing.{Clearing, EndStep, ExpiredStep, IsLate, IsLeased, IsRested, Lateness, LeasedBy, LeasedStep}
+use Rattle.gw_transport.specs.Leasing.{Clearing, EndStep, ExpiredStep, IsLate, IsLeased, IsRested, Lateness, LeasedStep}
 use Rattle.gw_transport.specs.Parts.{Anywhere, Ends, Expires, IsRefused, Leases, Sees, Unreached}
 use Rattle.gw_stream.specs.Watched.{Watched}
 use Rattle.gw_transport.specs.Stretch.{Stretch}

@@ -2,7 +2,7 @@
 use Rattle.std.proofs.Common.{ℕ, ◌≡◌, ◌<◌, ◌==◌, ◌&&◌, Bool, true, false, find, List, [], ◌∷◌, ◌++◌, Option, Some, None, refl, ap, sym, subst, ◌∙◌, arith, inl}
 use Rattle.std.proofs.lemmas.Bool.{eq-eqb}
 use Rattle.gw_wire.specs.declared.traits.Dial.TheVariants as dials
-use Rattle.gw_wire.specs.declared.values.Act.TheVariants.{Dialed, DialFailed}
+use Rattle.gw_wire.specs.declared.values.Act.TheVariants.{Dialed}
 use Rattle.gw_wire.specs.declared.values.Addr.{Addr}
 use Rattle.gw_wire.specs.Causes.{RoseBy}
 use Rattle.gw_wire.specs.DialStep.{DialStep}
@@ -20,27 +20,25 @@ use Rattle.gw_pool.specs.declared.leases.Ticket.{Ticket}
 use Rattle.gw_pool.specs.declared.limits.Limits.{Limits}
 use Rattle.gw_pool.specs.declared.rows.ConnRow.{ConnRow}
 use Rattle.gw_pool.specs.declared.rows.WantRow.{WantRow}
-use Rattle.gw_pool.specs.declared.rows.DialRow.{DialRow}
 use Rattle.gw_pool.specs.Gone.{link_of, number_of}
 use Rattle.gw_pool.specs.History.{IsLegal, after}
-use Rattle.gw_pool.specs.Keeps.{Comes, IsDialed, IsKeptByGrant, IsOut, IsOver, IsServed, IsWanted, StandsDialed, StandsFailed}
+use Rattle.gw_pool.specs.Keeps.{Comes, IsDialed, IsKeptByGrant, IsOut, IsServed, IsWanted, StandsDialed}
 use Rattle.gw_pool.specs.Lent as pool
 use Rattle.gw_pool.specs.Lent.{Lent, Meets, Calls, Looks, AskTaken, AskGranted, AskNotYet, AskFailed, DialFailedStep, StartGo, StartNot, entry_of, row_of}
-use Rattle.gw_pool.specs.Machine.{Outcome, Standing, MayDial, NotComing, NotServed, Served, failed_by, failed_row, failed_to, replied, standing, start_by, start_row, step, when}
-use Rattle.gw_pool.specs.Offer.{grant}
+use Rattle.gw_pool.specs.Machine.{Outcome, start_by, start_row, step, when}
 use Rattle.gw_pool.specs.Places.{is_dialing, is_granted}
 use Rattle.gw_pool.specs.Shelf.{is_among}
-use Rattle.gw_pool.specs.State.{State, dials_for, remove_first, wants_it}
-use Rattle.gw_pool.specs.Tokens.{change, ticket_of, with_dial, without_dial, without_ticket}
-use Rattle.gw_pool.proofs.Facts.{dialed_stands, dials_stay, failed_stands, not_started, over_stays, served_standing, served_stays, started_stands, wants_go_on}
-use Rattle.gw_account.specs.Did.{span, Wired}
-use Rattle.gw_account.specs.Work.{Work, At, Seq, free}
+use Rattle.gw_pool.specs.State.{State, wants_it}
+use Rattle.gw_pool.specs.Tokens.{change, ticket_of, with_dial, without_dial}
+use Rattle.gw_pool.proofs.Facts.{dialed_stands, dials_stay, not_started, started_stands, wants_go_on}
+use Rattle.gw_account.specs.Did.{span}
+use Rattle.gw_account.specs.Work.{free}
 use Rattle.gw_account.proofs.Facts.{doing_went, wired_call}
 use Rattle.gw_transport.specs.declared.leasing.Leased.TheVariants as leased
-use Rattle.gw_transport.specs.Leasing.{DialedStep, Holds, IsLeased, IsPending, IsRested, LeftStep, TakenStep}
-use Rattle.gw_transport.specs.Parts.{Way, Anywhere, Called, Dials, FailsToDial, IsDialedTo, Sees, Starts}
+use Rattle.gw_transport.specs.Leasing.{DialedStep, Holds, IsPending, LeftStep, TakenStep}
+use Rattle.gw_transport.specs.Parts.{Way, Anywhere, Called, Dials, IsDialedTo, Sees, Starts}
 use Rattle.gw_transport.specs.Stretch.{Part}
-use Rattle.gw_transport.proofs.CallLemmas.{closes_link, holds_after, leased_so, legal_looked, only_token, spent_token}
+use Rattle.gw_transport.proofs.CallLemmas.{closes_link, holds_after, legal_looked}
 use Rattle.gw_transport.proofs.EndLemmas.{legal_met, part_handed, part_now}
 use Rattle.gw_transport.proofs.SeqLemmas.{sees_hands, sees_sees}
 use Rattle.gw_transport.proofs.StretchLemmas.{part_by, part_called, part_looked, part_map, part_then, part_untimed}

@@ -1,5 +1,5 @@
 -- Steps of a wait for a reply's head, over plain variables.
-use Rattle.std.proofs.Common.{ℕ, zero, suc, ◌≡◌, ◌≤◌, ◌<◌, ◌+◌, false, not, nat_lt, List, [], ◌∷◌, ◌++◌, length, take, drop, None, ◌==◌, refl, ap, sym, subst, ◌∙◌, arith, inl, inr, append_assoc, append-nil, length-append, ne_eqb}
+use Rattle.std.proofs.Common.{ℕ, zero, suc, ◌≡◌, ◌≤◌, ◌<◌, ◌+◌, false, not, nat_lt, List, [], ◌∷◌, ◌++◌, length, take, drop, None, ◌==◌, refl, ap, sym, subst, ◌∙◌, arith, inl, inr, append_assoc, length-append, ne_eqb}
 use Rattle.std.proofs.Math.Seq.{drop-length}
 use Rattle.std.proofs.lemmas.Bool.{lt-ltb}
 use Rattle.std.proofs.lemmas.List.{take-append-drop}
@@ -20,10 +20,9 @@ use Rattle.gw_account.specs.Work.{free}
 use Rattle.gw_account.proofs.Facts.{free_both}
 use Rattle.gw_stream.specs.declared.waits.Heard.TheVariants as got
 use Rattle.gw_stream.specs.declared.waits.Loss.{Loss}
-use Rattle.gw_stream.specs.Drawing.{HearsWhile}
 use Rattle.gw_stream.specs.Guard.{GuardView}
-use Rattle.gw_stream.specs.Waits.{Side, side, HeardStep, LossCause, Waited, loss_acts, loss_bill}
-use Rattle.gw_stream.proofs.Facts.{Goes, goes_same, goes_waited, hears_then, loss_within, waited_map, waited_same, waited_then}
+use Rattle.gw_stream.specs.Waits.{Side, side, HeardStep, Waited, loss_acts, loss_bill}
+use Rattle.gw_stream.proofs.Facts.{goes_same, goes_waited, hears_then, loss_within, waited_map, waited_same, waited_then}
 use Rattle.gw_transport.specs.declared.replying.HeadHeard.TheVariants as heard
 use Rattle.gw_transport.specs.Replying.{HeadStep, HearsFor, HearsHead, IsRefusedHead}
 

@@ -10,6 +10,7 @@ mod RestLemmas
 mod SendingLemmas
 mod SeqLemmas
 mod StretchLemmas
+mod UploadLemmas
 mod WaitLemmas
 mod WantLemmas
 mod WatchLemmas

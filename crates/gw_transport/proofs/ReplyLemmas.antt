@@ -1,26 +1,22 @@
 -- Steps of a wait for a reply, over plain variables.
-use Rattle.std.proofs.Common.{ℕ, zero, suc, ◌≡◌, ◌≤◌, ◌<◌, ◌+◌, ◌||◌, ◌⊎◌, Bool, true, false, nat_lt, List, [], ◌∷◌, ◌++◌, length, Option, Some, None, refl, ap, sym, subst, ◌∙◌, arith, inl, inr, append_assoc}
+use Rattle.std.proofs.Common.{ℕ, zero, suc, ◌≡◌, ◌≤◌, ◌<◌, ◌+◌, ◌||◌, Bool, true, false, nat_lt, List, [], ◌∷◌, ◌++◌, length, Some, None, refl, ap, sym, subst, ◌∙◌, arith, inl, inr, append_assoc}
 use Rattle.std.proofs.lemmas.Bool.{le-leb, lt-ltb}
 use Rattle.std.proofs.lemmas.Bool.Decides.{nat_tests}
 use Rattle.gw_wire.specs.declared.values.Act.{Act}
-use Rattle.gw_wire.specs.declared.values.Act.TheVariants.{Read}
 use Rattle.gw_wire.specs.Link.{LinkView, LinkLater}
-use Rattle.gw_wire.specs.Stretch.{Acts, Then}
+use Rattle.gw_wire.specs.Stretch.{Then}
 use Rattle.gw_wire.specs.Wire.{WireView}
 use Rattle.gw_wire.proofs.Facts.{link_same, link_then}
 use Rattle.gw_head.specs.declared.reply.ReplyHead.{ReplyHead}
 use Rattle.gw_head.specs.Head.{ReplyHeadOf}
-use Rattle.gw_head.specs.Stage.{IsUndecided}
 use Rattle.gw_body.specs.declared.place.Place.{Place}
 use Rattle.gw_body.specs.Framing.{reply_framing_of}
 use Rattle.gw_body.specs.Places.{begins}
-use Rattle.gw_retry.specs.declared.Failure.{Failure}
 use Rattle.gw_retry.specs.declared.Failure.TheVariants as failure
 use Rattle.gw_account.specs.Work.{Bill, free}
 use Rattle.gw_account.proofs.Facts.{free_both}
 use Rattle.gw_stream.specs.declared.waits.Loss.{Loss}
 use Rattle.gw_stream.specs.declared.waits.Loss.TheVariants as loss
-use Rattle.gw_stream.specs.declared.waits.Stop.{Stop}
 use Rattle.gw_stream.specs.declared.waits.Stop.TheVariants as stops
 use Rattle.gw_stream.specs.Drawing.{HearsWhile}
 use Rattle.gw_stream.specs.Guard.{GuardView}
@@ -35,7 +31,7 @@ use Rattle.gw_transport.specs.declared.replying.HeadHeard.{HeadHeard}
 use Rattle.gw_transport.specs.declared.replying.HeadHeard.TheVariants as heard
 use Rattle.gw_transport.specs.Attempts.{TriedCause}
 use Rattle.gw_transport.specs.Leasing.{Lateness}
-use Rattle.gw_transport.specs.Replying.{BeginsReply, FailsToReply, HeadStep, HearsFor, HearsHead, HearsReply, Informs, IsAnswering, IsBadReply, IsNotTaken, IsOfWait, IsOpenReply, LosesReply, Replies, ReplyStep, failure_bill, is_final, is_informational, lost_by, tried_bill}
+use Rattle.gw_transport.specs.Replying.{BeginsReply, FailsToReply, HeadStep, HearsFor, HearsHead, HearsReply, Informs, IsAnswering, IsOfWait, IsOpenReply, LosesReply, Replies, ReplyStep, failure_bill, is_final, is_informational, lost_by, tried_bill}
 
 -- ---- informational heads in front
 

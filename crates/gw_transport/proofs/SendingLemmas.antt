@@ -1,5 +1,5 @@
 -- Steps of an attempt with a kept body, over plain variables.
-use Rattle.std.proofs.Common.{ℕ, ◌≡◌, ◌≤◌, arith, Some, Bool, true, false, List, [], ◌++◌, Option, None, refl, ap, sym, subst, ◌∙◌, inl, inr}
+use Rattle.std.proofs.Common.{ℕ, ◌≡◌, ◌≤◌, arith, Some, Bool, true, false, List, ◌++◌, None, refl, ap, sym, subst, ◌∙◌, inl, inr}
 use Rattle.gw_wire.specs.declared.values.Act.{Act}
 use Rattle.gw_wire.specs.Link.{LinkView}
 use Rattle.gw_wire.specs.Stretch.{Then}
@@ -7,7 +7,6 @@ use Rattle.gw_head.specs.declared.framing.Framing.TheVariants.{None as NoBody, L
 use Rattle.gw_body.specs.Written.{body_text}
 use Rattle.gw_proxy.specs.declared.request.OutHead.{OutHead}
 use Rattle.gw_proxy.specs.OutRequest.{request_text_of}
-use Rattle.gw_retry.specs.declared.Failure.TheVariants as failure
 use Rattle.gw_account.specs.Work.{Bill, free}
 use Rattle.gw_account.proofs.Facts.{free_both, went_map}
 use Rattle.gw_stream.specs.declared.relaying.Incoming.{Incoming}
@@ -88,7 +87,7 @@ failed_bill : (some : Bool) → free ≡ failure_bill Lateness.ByDeadline (unwri
 failed_bill true = refl
 failed_bill false = refl
 
-failed_cause : (f h : GuardView) (moment : ℕ) (some : Bool) → TriedCause {R = Begun} {E = End} f h moment Lateness.ByDeadline (tried.Failed (unwritten some))
+pub failed_cause : (f h : GuardView) (moment : ℕ) (some : Bool) → TriedCause {R = Begun} {E = End} f h moment Lateness.ByDeadline (tried.Failed (unwritten some))
 failed_cause f h moment true = tt
 failed_cause f h moment false = tt
 

@@ -1,5 +1,5 @@
 -- How stretches beside a guard are put together.
-use Rattle.std.proofs.Common.{ℕ, ◌≡◌, ◌≤◌, false, List, [], ◌∷◌, ◌++◌, Option, refl, ap, sym, subst, ◌∙◌, arith, inl, inr}
+use Rattle.std.proofs.Common.{ℕ, ◌≡◌, ◌≤◌, false, List, [], ◌∷◌, ◌++◌, refl, ap, sym, subst, ◌∙◌, arith, inl}
 use Rattle.gw_wire.specs.Causes.{RoseBy}
 use Rattle.gw_wire.specs.Wire.{WireView}
 use Rattle.gw_pool.specs.declared.entry.Call.{Call}
@@ -15,7 +15,6 @@ use Rattle.gw_account.specs.Work.{Bill, Work, At, free, nothing, and, at_of, Onl
 use Rattle.gw_account.proofs.Facts.{at_then, doing_then, doing_nothing, doing_went, called, called_untimed, looked}
 use Rattle.gw_stream.specs.Guard.{GuardView, GuardGoes}
 use Rattle.gw_transport.specs.Parts.{Called, Sees}
-use Rattle.gw_stream.specs.Watched.{Watched}
 use Rattle.gw_stream.specs.Waits.{Side, Waited}
 use Rattle.gw_transport.specs.Stretch.{Part, Stretch}
 use Rattle.gw_stream.proofs.Facts.{guard_same, watched_then}

@@ -26,11 +26,11 @@ use Rattle.gw_account.specs.Work.{Work, At, and, behind, free}
 use Rattle.gw_account.proofs.Facts.{doing_billed, looked, pays_by}
 use Rattle.gw_transport.specs.declared.leasing.Wanted.TheVariants as wanted
 use Rattle.gw_transport.specs.Leasing.{AnswerStands, ExpiredStep, IsAsked, IsRested, LeftStep, WantedStep}
-use Rattle.gw_transport.specs.Parts.{Anywhere, Closes, Expires, FindsExpired, Hands, HasRoom, IsRefused, NoneIsDue, Repeats, Sees, Wants}
+use Rattle.gw_transport.specs.Parts.{Anywhere, Closes, FindsExpired, Hands, HasRoom, IsRefused, NoneIsDue, Repeats, Wants}
 use Rattle.gw_transport.specs.Stretch.{Part}
 use Rattle.gw_transport.proofs.CallLemmas.{holds_after, is_link, left_some, no_closes, rested_after}
-use Rattle.gw_transport.proofs.SeqLemmas.{seq_map, sees_sees}
-use Rattle.gw_transport.proofs.StretchLemmas.{part_by, part_called, part_looked, part_map, part_nothing, part_then, part_went}
+use Rattle.gw_transport.proofs.SeqLemmas.{sees_sees}
+use Rattle.gw_transport.proofs.StretchLemmas.{part_called, part_map, part_nothing, part_then, part_went}
 
 -- behind the closes of nothing all stands
 due_nothing : (at : ℕ) (a : At) (w u v : Work) → w ≡ and u v → NoneIsDue at a u → Closes [] (behind a u) v → NoneIsDue at a w

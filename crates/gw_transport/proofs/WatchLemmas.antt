@@ -1,5 +1,5 @@
 -- What a look of a worker does.
-use Rattle.std.proofs.Common.{ℕ, zero, suc, ◌≡◌, ◌≢◌, ◌≤◌, ◌<◌, ◌+◌, ◌^◌, ◌==◌, ◌⊎◌, max, min, if◌then◌else◌, Bool, true, false, nat_le, List, [], ◌∷◌, ◌++◌, length, Option, Some, None, refl, ap, sym, subst, ◌∙◌, arith, inl, inr, append-nil}
+use Rattle.std.proofs.Common.{ℕ, zero, suc, ◌≡◌, ◌≢◌, ◌≤◌, ◌<◌, ◌+◌, ◌⊎◌, if◌then◌else◌, Bool, true, false, List, [], ◌∷◌, ◌++◌, length, Option, Some, None, refl, ap, sym, subst, ◌∙◌, arith, inl, inr, append-nil}
 use Rattle.std.specs.Prelude.{IfSome}
 use Rattle.std.proofs.lemmas.Bool.{cases_lt, eq-eqb, le-leb, leb-true}
 use Rattle.std.proofs.lemmas.List.{get_or_past}
@@ -8,7 +8,7 @@ use Rattle.gw_wire.specs.Causes.{Rose}
 use Rattle.gw_context.specs.declared.parts.Cause.{Cause}
 use Rattle.gw_context.specs.declared.parts.Cause.TheVariants.{Canceled, DeadlineExceeded}
 use Rattle.gw_context.specs.declared.parts.Node.{Node}
-use Rattle.gw_context.specs.Node.{Climbs, Ends, Fate, IsLive, IsUnderDue, Under, is_due, node_at, root}
+use Rattle.gw_context.specs.Node.{Climbs, Ends, Fate, IsLive, IsUnderDue, is_due, node_at, root}
 use Rattle.gw_context.specs.Tree.{Advanced, TreeView, added, timed_child_of}
 use Rattle.gw_ctxwords.specs.Calls as ctx
 use Rattle.gw_ctxwords.specs.declared.answers.Looked.TheVariants as looked

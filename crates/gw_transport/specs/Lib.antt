@@ -5,3 +5,5 @@ pub mod Attempts
 pub mod Watch
 pub mod Replying
 pub mod Sending
+pub mod Uploading
+pub mod Ending

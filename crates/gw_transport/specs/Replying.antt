@@ -1,5 +1,5 @@
 -- A reply's head as it comes of a backend's link, behind informational replies, which are dropped (RFC 9110, section 15.2).
-use Rattle.std.specs.Prelude.{ℕ, zero, suc, ◌≡◌, ◌<◌, ◌≤◌, ◌⊎◌, Bool, true, false, ◌&&◌, not, ◌==◌, List, [], ◌∷◌, ◌++◌, length, nat_le, nat_lt, Option, None}
+use Rattle.std.specs.Prelude.{ℕ, zero, suc, ◌≡◌, ◌<◌, ◌≤◌, ◌⊎◌, Bool, true, false, ◌&&◌, not, ◌==◌, List, [], ◌∷◌, ◌++◌, length, nat_le, nat_lt, None}
 use Rattle.gw_wire.specs.declared.values.Act.{Act}
 use Rattle.gw_wire.specs.declared.values.Act.TheVariants.{ReadFailed}
 use Rattle.gw_wire.specs.declared.values.Act.TheVariants.{End as LinkEnd}

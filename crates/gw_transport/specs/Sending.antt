@@ -1,5 +1,5 @@
 -- An attempt with a body that is kept: its request is written whole, and then its reply is awaited.
-use Rattle.std.specs.Prelude.{ℕ, ◌≡◌, ◌≤◌, ◌⊎◌, Bool, true, false, List, [], ◌∷◌, length}
+use Rattle.std.specs.Prelude.{ℕ, ◌≡◌, ◌⊎◌, true, false, List, [], length}
 use Rattle.gw_wire.specs.declared.values.Act.{Act}
 use Rattle.gw_wire.specs.Stretch.{Then}
 use Rattle.gw_head.specs.declared.framing.Framing.{Framing}
@@ -7,8 +7,6 @@ use Rattle.gw_head.specs.declared.framing.Framing.TheVariants.{None as NoBody, L
 use Rattle.gw_body.specs.declared.place.Place.{Place}
 use Rattle.gw_proxy.specs.declared.request.OutHead.{OutHead}
 use Rattle.gw_proxy.specs.OutRequest.{request_text_of}
-use Rattle.gw_retry.specs.declared.BodyKind.{BodyKind}
-use Rattle.gw_retry.specs.declared.BodyKind.TheVariants as kind
 use Rattle.gw_retry.specs.declared.Failure.TheVariants as failure
 use Rattle.gw_account.specs.Work.{Work, At, Only}
 use Rattle.gw_stream.specs.declared.relaying.Incoming.{Incoming}

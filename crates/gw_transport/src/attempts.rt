@@ -2,14 +2,18 @@
 
 ghost use Rattle.std.specs.Prelude.{◌≡◌, ◌≤◌, ◌<◌, false};
 ghost use Rattle.gw_account.specs.Did.{span};
+ghost use Rattle.gw_stream.specs.Outbox.{out_size};
+ghost use Rattle.gw_wire.specs.Link.{LinkLater};
 ghost use Rattle.gw_transport.specs.Attempts.{AttemptedBy, AttemptedStep, TripStep, errand_of};
 ghost use Rattle.gw_transport.specs.Leasing.{IsRested};
 ghost use Rattle.gw_transport.specs.Sending.{ExchangesKept, IsKept, kept_view};
+ghost use Rattle.gw_transport.specs.Uploading.{ExchangesUpload, TripClientCause, upload_errand, upload_view};
 
 use crate::buffers::Buffers;
 use crate::leasing::{Leased, close_expired, end_lease, lease};
 use crate::replying::{Begun, End};
 use crate::sending::{exchange, kind_of_body};
+use crate::uploading::{Upload, exchange_upload};
 use gw_body::Rewindable;
 use gw_pool::{Lease, Leases};
 use gw_proxy::OutHead;
@@ -142,4 +146,91 @@ pub fn round_trip<W: Wire, L: Leases<W::Conn>, G: Guard>(
     let now = wire.now();
     close_expired(wire, leases, now);
     make_attempts(wire, leases, guard, order, body, buffers)
+}
+
+// One attempt of a request whose body is read of the client's link, on a connection of its own.
+fn make_upload<W: Wire, L: Leases<W::Conn>, G: Guard>(
+    wire: &mut W,
+    leases: &mut L,
+    guard: &mut G,
+    order: &Order<'_>,
+    client: &mut W::Conn,
+    upload: &mut Upload,
+    buffers: &mut Buffers,
+) -> Attempted<W::Conn, Begun, End>
+    requires fresh { (W.wire wire.old).aged ≡ false }
+    requires looked { (G.guard guard.old).last ≤ (W.wire wire.old).moment }
+    requires rested { IsRested (L.lent leases.old) }
+    requires within { order.now.host < (L.lent leases.old).limits.hosts }
+    requires none { upload.old.continued ≡ 0 }
+    requires room { buffers.old.out.size ≡ out_size }
+    ensures step { AttemptedStep W.Conn.link (span (W.wire wire.old) (W.wire wire.new) (L.lent leases.old) (L.lent leases.new)) (G.guard guard.old) (G.guard guard.new)
+        (AttemptedBy ExchangesUpload (upload_errand order.now)
+        (upload_view order.now.out.now (W.Conn.link client.old).number upload.old buffers.old.client buffers.old.backend)
+        (upload_view order.now.out.now (W.Conn.link client.new).number upload.new buffers.new.client buffers.new.backend) result) result }
+    ensures client { LinkLater (W.Conn.link client.old) (W.Conn.link client.new) }
+    ensures cause { TripClientCause (W.Conn.link client.old) (W.Conn.link client.new) result }
+    ensures leases { L.keeper leases.new ≡ L.keeper leases.old }
+    ensures guard { G.keeper guard.new ≡ G.keeper guard.old }
+    ensures room { buffers.new.out.size ≡ buffers.old.out.size }
+{
+    let mut got = match lease(wire, leases, guard, order.host, order.addr) {
+        Leased::Lease(got) => got,
+        Leased::Unreachable => return Attempted::Unreachable,
+        Leased::Full => return Attempted::Full,
+        Leased::Cancelled => return Attempted::Failed(Failure::Cancelled),
+        Leased::Late => return Attempted::Failed(Failure::Deadline),
+    };
+    match exchange_upload(
+        wire,
+        guard,
+        &mut got.conn,
+        client,
+        order.out,
+        upload,
+        buffers,
+    ) {
+        Tried::Reply(reply) => Attempted::Reply(got, reply),
+        Tried::Over(end) => {
+            end_lease(wire, leases, got, false);
+            Attempted::Over(end)
+        }
+        Tried::Failed(why) => {
+            end_lease(wire, leases, got, false);
+            Attempted::Failed(why)
+        }
+    }
+}
+
+/// Makes a trip of a request whose body is read of the client's link as it is sent, as `round_trip` does, but with one
+/// attempt, since such a body can't be sent again. The client is told to go on before its body is read, where it waits for
+/// that. The body is that of `buffers.client`, which no memory is taken for.
+pub fn upload_trip<W: Wire, L: Leases<W::Conn>, G: Guard>(
+    wire: &mut W,
+    leases: &mut L,
+    guard: &mut G,
+    order: &Order<'_>,
+    client: &mut W::Conn,
+    upload: &mut Upload,
+    buffers: &mut Buffers,
+) -> Attempted<W::Conn, Begun, End>
+    requires fresh { (W.wire wire.old).aged ≡ false }
+    requires looked { (G.guard guard.old).last ≤ (W.wire wire.old).moment }
+    requires rested { IsRested (L.lent leases.old) }
+    requires within { order.now.host < (L.lent leases.old).limits.hosts }
+    requires none { upload.old.continued ≡ 0 }
+    requires room { buffers.old.out.size ≡ out_size }
+    ensures step { TripStep W.Conn.link (span (W.wire wire.old) (W.wire wire.new) (L.lent leases.old) (L.lent leases.new)) (G.guard guard.old) (G.guard guard.new)
+        (AttemptedBy ExchangesUpload (upload_errand order.now)
+        (upload_view order.now.out.now (W.Conn.link client.old).number upload.old buffers.old.client buffers.old.backend)
+        (upload_view order.now.out.now (W.Conn.link client.new).number upload.new buffers.new.client buffers.new.backend) result) result }
+    ensures client { LinkLater (W.Conn.link client.old) (W.Conn.link client.new) }
+    ensures cause { TripClientCause (W.Conn.link client.old) (W.Conn.link client.new) result }
+    ensures leases { L.keeper leases.new ≡ L.keeper leases.old }
+    ensures guard { G.keeper guard.new ≡ G.keeper guard.old }
+    ensures room { buffers.new.out.size ≡ buffers.old.out.size }
+{
+    let now = wire.now();
+    close_expired(wire, leases, now);
+    make_upload(wire, leases, guard, order, client, upload, buffers)
 }

@@ -3,15 +3,19 @@
 
 mod attempts;
 mod buffers;
+mod ending;
 mod leasing;
 mod replying;
 mod sending;
+mod uploading;
 mod watch;
 
-pub use attempts::{Attempted, Order, Tried, Trip, round_trip};
+pub use attempts::{Attempted, Order, Tried, Trip, round_trip, upload_trip};
 pub use buffers::{Buffers, NoMemory};
+pub use ending::{finish, pull};
 pub use leasing::{Leased, close_expired, end_lease, lease};
 pub use replying::{Begun, End};
+pub use uploading::Upload;
 pub use watch::{Watch, first_deadline_is_least};
 
 #[cfg(test)]

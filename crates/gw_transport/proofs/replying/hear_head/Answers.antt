@@ -1,4 +1,4 @@
-use Rattle.std.proofs.Common.{◌++◌, [], refl, ◌∙◌, ap, sym, arith}
+use Rattle.std.proofs.Common.{◌++◌, [], refl, ◌∙◌, ap}
 use Rattle.gw_head.specs.Stage.{bytes_of}
 use Rattle.gw_transport.proofs.HeadLemmas.{brought, hearing_bad, hearing_begins, hearing_ends, hearing_head, hearing_lost, hearing_memory, hearing_more, used_whole}
 use Rattle.gw_transport.proofs.replying.hear_head.Goals as goal

@@ -1,5 +1,4 @@
 use Rattle.std.proofs.Common.{sym}
-use Rattle.gw_stream.specs.declared.guard.Sight.TheVariants as sight
 use Rattle.gw_transport.proofs.WatchLemmas.{ended_due, found_rose, least_kept, live_before, look_goes}
 use Rattle.gw_transport.proofs.watch.WatchGuard.look.Goals as goal
 

@@ -1,0 +1,35 @@
+use Rattle.gw_transport.specs.Uploading.{ExchangesUpload, upload_errand}
+use Rattle.gw_transport.proofs.AttemptLemmas.{tried_cancelled, tried_full, tried_last, tried_late, tried_over, tried_reply, tried_unreached, trying_begins}
+use Rattle.gw_transport.proofs.UploadLemmas.{once_is_final}
+use Rattle.gw_transport.proofs.attempts.make_upload.Goals as goal
+
+pub returns-in-Unreachable-clause-step : goal.returns-in-Unreachable-clause-step
+returns-in-Unreachable-clause-step g c =
+    tried_unreached g.W.Conn.Link.link ExchangesUpload (upload_errand c.args.order.now) _ _ _ _ _ _ _ _ _ _ _ 0 (trying_begins ExchangesUpload (upload_errand c.args.order.now) _ _ _ _ c.requires.fresh c.requires.looked c.requires.rested) c.in-Unreachable.ensures.step
+
+pub returns-in-Full-clause-step : goal.returns-in-Full-clause-step
+returns-in-Full-clause-step g c =
+    tried_full g.W.Conn.Link.link ExchangesUpload (upload_errand c.args.order.now) _ _ _ _ _ _ _ _ _ _ _ 0 (trying_begins ExchangesUpload (upload_errand c.args.order.now) _ _ _ _ c.requires.fresh c.requires.looked c.requires.rested) c.in-Full.ensures.step
+
+pub returns-in-Cancelled-clause-step : goal.returns-in-Cancelled-clause-step
+returns-in-Cancelled-clause-step g c =
+    tried_cancelled g.W.Conn.Link.link ExchangesUpload (upload_errand c.args.order.now) _ _ _ _ _ _ _ _ _ _ _ 0 (trying_begins ExchangesUpload (upload_errand c.args.order.now) _ _ _ _ c.requires.fresh c.requires.looked c.requires.rested) c.in-Cancelled.ensures.step
+
+pub returns-in-Late-clause-step : goal.returns-in-Late-clause-step
+returns-in-Late-clause-step g c =
+    tried_late g.W.Conn.Link.link ExchangesUpload (upload_errand c.args.order.now) _ _ _ _ _ _ _ _ _ _ _ 0 (trying_begins ExchangesUpload (upload_errand c.args.order.now) _ _ _ _ c.requires.fresh c.requires.looked c.requires.rested) c.in-Late.ensures.step
+
+pub returns-in-Reply-clause-step : goal.returns-in-Reply-clause-step
+returns-in-Reply-clause-step g c =
+    tried_reply g.W.Conn.Link.link ExchangesUpload (upload_errand c.args.order.now) _ _ _ _ _ _ _ _ _ _ _ _ _ _ 0 c.in-Lease.got c.exchange_upload.new.conn c.in-Reply.reply (trying_begins ExchangesUpload (upload_errand c.args.order.now) _ _ _ _ c.requires.fresh c.requires.looked c.requires.rested)
+    c.in-Lease.ensures.step c.in-Reply.ensures.step c.in-Reply.ensures.link
+
+pub returns-in-Over-clause-step : goal.returns-in-Over-clause-step
+returns-in-Over-clause-step g c =
+    tried_over g.W.Conn.Link.link ExchangesUpload (upload_errand c.args.order.now) _ _ _ _ _ _ _ _ _ _ _ _ _ _ _ _ 0 c.in-Lease.got c.in-Over.end (trying_begins ExchangesUpload (upload_errand c.args.order.now) _ _ _ _ c.requires.fresh c.requires.looked c.requires.rested)
+    c.in-Lease.ensures.step c.in-Over.ensures.step c.end_lease.ensures.step
+
+pub returns-in-Failed-clause-step : goal.returns-in-Failed-clause-step
+returns-in-Failed-clause-step g c =
+    tried_last g.W.Conn.Link.link ExchangesUpload (upload_errand c.args.order.now) _ _ _ _ _ _ _ _ _ _ _ _ _ _ _ _ 0 c.in-Lease.got c.in-Failed.why (trying_begins ExchangesUpload (upload_errand c.args.order.now) _ _ _ _ c.requires.fresh c.requires.looked c.requires.rested)
+    c.in-Lease.ensures.step c.in-Failed.ensures.step c.end_lease-in-Failed.ensures.step (once_is_final c.in-Failed.why c.in-Lease.got.reused c.args.order.now.out.now.method c.args.order.now.out.now.has_key 1)
