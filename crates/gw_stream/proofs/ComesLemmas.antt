@@ -65,27 +65,29 @@ behind_draws k old mid new ahead between left d e ending x y p t = (
   t.4,
 )
 
-pub comes_then : (k : ℕ) (old mid : Place) (ahead between left d e : List ℕ) (came : Came) (x y : List Act) → Draws k old ahead d mid between x
-    → Comes k mid between e left came y → Comes k old ahead (d ++ e) left came (x ++ y)
-comes_then k old mid ahead between left d e Came.Inside x y p q = (q.0, draws_then k old mid q.0 ahead between left d e x y p q.1)
-comes_then k old mid ahead between left d e Came.Done x y p q = record {
+pub comes_then : (k : ℕ) (old mid new : Place) (ahead between left d e : List ℕ) (came : Came) (x y : List Act) → Draws k old ahead d mid between x
+    → Comes k mid between e new left came y → Comes k old ahead (d ++ e) new left came (x ++ y)
+comes_then k old mid new ahead between left d e Came.Inside x y p q = draws_then k old mid new ahead between left d e x y p q
+comes_then k old mid new ahead between left d e Came.Done x y p q = record {
   at = q.at;
   ending = q.ending;
   ends = q.ends;
   draws = behind_draws k old mid q.at ahead between left d e q.ending x y p q.draws;
 }
-comes_then k old mid ahead between left d e (Came.Bad error) x y p q = record {
+comes_then k old mid new ahead between left d e (Came.Bad error) x y p q = record {
   at = q.at;
   front = q.front;
   left = q.left;
   draws = draws_then k old mid q.at ahead between (q.front ++ q.left) d e x y p q.draws;
   fails = q.fails;
+  behind = q.behind;
 }
-comes_then k old mid ahead between left d e (Came.Lost why) x y p q = record {
+comes_then k old mid new ahead between left d e (Came.Lost why) x y p q = record {
   at = q.at;
   inside = q.inside;
   short = q.short;
   draws = behind_draws k old mid q.at ahead between [] d e _ x y p q.draws;
+  behind = q.behind;
 }
 
 -- ---- what one pull brought
@@ -98,16 +100,16 @@ came_of (pulled.Bad error) = Came.Bad error
 came_of (pulled.Lost why) = Came.Lost why
 
 pub comes_of : (k : ℕ) (old new : Place) (ahead left d : List ℕ) (r : Pull) (acts : List Act) → length d ≡ count_of r → Pulled k old ahead new left d r acts
-    → Comes k old ahead d left (came_of r) acts
-comes_of k old new ahead left d (pulled.Data n) acts size p = (new, p.0)
+    → Comes k old ahead d new left (came_of r) acts
+comes_of k old new ahead left d (pulled.Data n) acts size p = p.0
 comes_of k old new ahead left d pulled.More acts size p =
-    subst (λ (l : List ℕ). Comes k old ahead l left Came.Inside acts) (sym (nil_from_length d size)) (new, p.0)
+    subst (λ (l : List ℕ). Comes k old ahead l new left Came.Inside acts) (sym (nil_from_length d size)) p.0
 comes_of k old new ahead left d pulled.Done acts size p =
-    subst (λ (l : List ℕ). Comes k old ahead l left Came.Done acts) (sym (nil_from_length d size)) p.0
+    subst (λ (l : List ℕ). Comes k old ahead l new left Came.Done acts) (sym (nil_from_length d size)) p.0
 comes_of k old new ahead left d (pulled.Bad error) acts size p =
-    subst (λ (l : List ℕ). Comes k old ahead l left (Came.Bad error) acts) (sym (nil_from_length d size)) p.0
+    subst (λ (l : List ℕ). Comes k old ahead l new left (Came.Bad error) acts) (sym (nil_from_length d size)) p.0
 comes_of k old new ahead left d (pulled.Lost why) acts size p =
-    subst (λ (l : List ℕ). Comes k old ahead l left (Came.Lost why) acts) (sym (nil_from_length d size)) p.0
+    subst (λ (l : List ℕ). Comes k old ahead l new left (Came.Lost why) acts) (sym (nil_from_length d size)) p.0
 
 -- a pull behind which the body goes on
 abbrev pub GoesOn : Pull → Type 0

@@ -15,8 +15,9 @@ use Rattle.gw_chunk.specs.declared.decoder.ChunkStep.{ChunkStep}
 use Rattle.gw_chunk.specs.declared.decoder.ChunkStep.TheVariants.{Data, More, Done, Bad}
 use Rattle.gw_chunk.specs.declared.error.ChunkError.{ChunkError}
 use Rattle.gw_body.specs.declared.place.Place.{Place}
-use Rattle.gw_body.specs.Places.{ended, is_inside}
-use Rattle.gw_body.specs.Taken.{Takes, DecidesNothing, Feeds, GivesData, WantsMore, Ends, Refuses, Steps}
+use Rattle.gw_body.specs.declared.place.Place.TheVariants.{Counted, Chunked, ToEnd, Refused}
+use Rattle.gw_body.specs.Places.{ended, is_inside, HasBody}
+use Rattle.gw_body.specs.Taken.{Takes, behind_link, DecidesNothing, Feeds, GivesData, WantsMore, Ends, Refuses, Steps}
 use Rattle.gw_body.proofs.Facts.{takes_none}
 use Rattle.gw_account.specs.Work.{free}
 use Rattle.gw_stream.specs.declared.drawing.Drawn.TheVariants as drawn
@@ -88,7 +89,7 @@ pub drew_bad : (old new : Place) (ahead left d : List ℕ) (room : ℕ) (fed : C
     → fed.step ≡ Bad error → Drew old ahead new left d (drawn.Bad error)
 drew_bad old new ahead left d room fed error feeds is =
     let refuses : Refuses old (take room ahead) fed.used error new = steps_at old new (take room ahead) fed (Bad error) feeds is in
-    (take room ahead, drop room ahead, sym (take-append-drop room ahead), refuses.fails)
+    (take room ahead, drop room ahead, sym (take-append-drop room ahead), refuses.fails, refuses.refused)
 
 -- ---- a pull without a read
 
@@ -106,15 +107,15 @@ pulled_data w g k old new ahead left d count fresh le t =
 pub pulled_more : (w : WireView) (g : GuardView) (k : ℕ) (old new : Place) (ahead left d : List ℕ) → w.aged ≡ false → g.last ≤ w.moment
     → Drew old ahead new left d drawn.More → Waited (side w g) (side w g) free (Pulled k old ahead new left d pulled.More)
 pulled_more w g k old new ahead left d fresh le t =
-    at_once w g (Pulled k old ahead new left d pulled.More) fresh le (draws_front k old new ahead [] left t.0, omega arith)
+    at_once w g (Pulled k old ahead new left d pulled.More) fresh le (draws_front k old new ahead [] left t.0, inl refl)
 
 pub pulled_done : (w : WireView) (g : GuardView) (k : ℕ) (old new : Place) (ahead left d : List ℕ) → w.aged ≡ false → g.last ≤ w.moment
     → Drew old ahead new left d drawn.Done → Waited (side w g) (side w g) free (Pulled k old ahead new left d pulled.Done)
 pulled_done w g k old new ahead left d fresh le t =
     let front : TakesFront old ahead [] ended left = subst (λ (p : Place). TakesFront old ahead [] p left) t.1 t.0 in
     at_once w g (Pulled k old ahead new left d pulled.Done) fresh le (
-      record { at = ended; ending = []; ends = inl (refl, refl); draws = ([], [], refl, draws_front k old ended ahead [] left front, refl) },
-      omega arith,
+      record { at = ended; ending = []; ends = inl (refl, refl, t.1); draws = ([], [], refl, draws_front k old ended ahead [] left front, refl) },
+      inl refl,
     )
 
 pub pulled_bad : (w : WireView) (g : GuardView) (k : ℕ) (old new : Place) (ahead left d : List ℕ) (error : ChunkError) → w.aged ≡ false → g.last ≤ w.moment
@@ -127,16 +128,23 @@ pulled_bad w g k old new ahead left d error fresh le t =
         left = t.1;
         draws = record { used = []; takes = takes_none old; reads = sym t.2 };
         fails = t.3;
+        behind = t.4;
       },
       refl,
     )
 
 -- ---- a pull with a read
 
--- nothing is ahead any more
-pub empty_of : (old new : Place) (ahead left : List ℕ) (empty : Bool) → (empty ≡ true ↔ left ≡ []) → empty ≡ true → Drew old ahead new left [] drawn.More
-    → Drew old ahead new [] [] drawn.More
-empty_of old new ahead left empty says is t = subst (λ (l : List ℕ). Drew old ahead new l [] drawn.More) (says.0 is) t
+-- where nothing was ahead, nothing is
+rest_none : (used left : List ℕ) → [] ≡ used ++ left → left ≡ []
+rest_none [] left e = sym e
+rest_none (b ∷ used) left e = absurd (let bad : 0 ≡ length (b ∷ (used ++ left)) = ap length e in omega (arith, bad))
+
+pub none_left : (old new : Place) (ahead left : List ℕ) → ahead ≡ [] → Drew old ahead new left [] drawn.More → left ≡ []
+none_left old new ahead left none t = rest_none t.0.used left (sym none ∙ t.0.bytes)
+
+pub empty_of : (old new : Place) (ahead left : List ℕ) → ahead ≡ [] → Drew old ahead new left [] drawn.More → Drew old ahead new [] [] drawn.More
+empty_of old new ahead left none t = subst (λ (l : List ℕ). Drew old ahead new l [] drawn.More) (none_left old new ahead left none t) t
 
 -- all that was ahead was used, and it leaves the body open
 all_used : (old new : Place) (ahead : List ℕ) (t : TakesFront old ahead [] new []) → t.used ≡ ahead
@@ -150,9 +158,9 @@ part_used old new ahead t inside = record {
   inside = inside;
 }
 
-pub pulled_read : (a b : Side) (from to : LinkView) (old new : Place) (ahead piece d : List ℕ) (silence : _) → Drew old ahead new [] d drawn.More
+pub pulled_read : (a b : Side) (from to : LinkView) (old new : Place) (ahead piece d : List ℕ) (silence : _) → ahead ≡ [] → Drew old ahead new [] d drawn.More
     → HeardStep a b from to piece silence heard.Got → Waited a b free (Pulled from.number old ahead new piece d pulled.More)
-pulled_read a b from to old new ahead piece d silence t h =
+pulled_read a b from to old new ahead piece d silence none t h =
     let draws : Draws from.number old ahead [] new piece (Read from.number piece ∷ []) =
     record {
       used = t.0.used;
@@ -160,7 +168,7 @@ pulled_read a b from to old new ahead piece d silence t h =
       reads = (part_used old new ahead t.0 t.1, piece, refl, ap (λ l. l ++ piece) (all_used old new ahead t.0));
     }
     in
-    waited_map h.waited (λ l is. subst (Pulled from.number old ahead new piece d pulled.More) (sym is) (draws, omega arith))
+    waited_map h.waited (λ l is. subst (Pulled from.number old ahead new piece d pulled.More) (sym is) (draws, inr (none, omega arith)))
 
 loss_short : (k : ℕ) (why : Loss) → length (loss_acts k why) ≤ 1
 loss_short k loss.End = omega arith
@@ -172,25 +180,25 @@ drawn_behind : (k : ℕ) (old new : Place) (ahead : List ℕ) (ending : List Act
     → Then (Draws k old ahead [] new []) (Acts ending) ending
 drawn_behind k old new ahead ending t = ([], ending, refl, draws_front k old new ahead [] [] t, refl)
 
-pub pulled_lost : (a b : Side) (from to : LinkView) (old new next : Place) (ahead left d : List ℕ) (silence : _) (why : Loss) (result : Pull) → left ≡ []
-    → Drew old ahead new [] d drawn.More → HeardStep a b from to left silence (heard.Lost why) → Leaves new why result
+pub pulled_lost : (a b : Side) (from to : LinkView) (old new next : Place) (ahead left d : List ℕ) (silence : _) (why : Loss) (result : Pull) → ahead ≡ [] → left ≡ []
+    → Drew old ahead new [] d drawn.More → HeardStep a b from to left silence (heard.Lost why) → Leaves new next why result
     → Waited a b (pull_bill silence result) (Pulled from.number old ahead next left d result)
-pulled_lost a b from to old new next ahead left d silence why (pulled.Data n) none t h leaves = absurd leaves
-pulled_lost a b from to old new next ahead left d silence why pulled.More none t h leaves = absurd leaves
-pulled_lost a b from to old new next ahead left d silence why (pulled.Bad error) none t h leaves = absurd leaves
-pulled_lost a b from to old new next ahead left d silence why pulled.Done none t h leaves =
+pulled_lost a b from to old new next ahead left d silence why (pulled.Data n) idle none t h leaves = absurd leaves
+pulled_lost a b from to old new next ahead left d silence why pulled.More idle none t h leaves = absurd leaves
+pulled_lost a b from to old new next ahead left d silence why (pulled.Bad error) idle none t h leaves = absurd leaves
+pulled_lost a b from to old new next ahead left d silence why pulled.Done idle none t h leaves =
     let ending : Waited a b free (Acts (LinkEnd from.number ∷ [])) = subst (λ (l : Loss). Waited a b (loss_bill silence l) (Acts (loss_acts from.number l))) leaves.0 h.waited in
     waited_map ending (λ l is. subst (Pulled from.number old ahead next left d pulled.Done) (sym is) (
       record {
         at = new;
         ending = LinkEnd from.number ∷ [];
-        ends = inr (t.1, leaves.1, none, refl);
+        ends = inr (t.1, leaves.1, none, refl, leaves.2);
         draws = subst (λ (m : List ℕ). Then (Draws from.number old ahead [] new m) (Acts (LinkEnd from.number ∷ [])) (LinkEnd from.number ∷ [])) (sym none)
             (drawn_behind from.number old new ahead (LinkEnd from.number ∷ []) t.0);
       },
-      omega arith,
+      inr (idle, omega arith),
     ))
-pulled_lost a b from to old new next ahead left d silence why (pulled.Lost cause) none t h leaves =
+pulled_lost a b from to old new next ahead left d silence why (pulled.Lost cause) idle none t h leaves =
     let waited : Waited a b (loss_bill silence cause) (Acts (loss_acts from.number cause)) =
     subst (λ (l : Loss). Waited a b (loss_bill silence l) (Acts (loss_acts from.number l))) (sym leaves.0) h.waited
     in
@@ -200,14 +208,25 @@ pulled_lost a b from to old new next ahead left d silence why (pulled.Lost cause
         inside = t.1;
         short = subst (λ (l : Loss). IsShort new l) (sym leaves.0) leaves.1;
         draws = drawn_behind from.number old new ahead (loss_acts from.number cause) t.0;
+        behind = leaves.2;
       },
-      loss_short from.number cause,
+      inr (idle, loss_short from.number cause),
     ))
 
-pub lost_cause : (a b : Side) (from to : LinkView) (at : Place) (silence : _) (why : Loss) (result : Pull) → LossCause a b from to silence why → Leaves at why result
+pub lost_cause : (a b : Side) (from to : LinkView) (at new : Place) (silence : _) (why : Loss) (result : Pull) → LossCause a b from to silence why → Leaves at new why result
     → PullCause a b from to silence result
-lost_cause a b from to at silence why (pulled.Data n) c leaves = tt
-lost_cause a b from to at silence why pulled.More c leaves = tt
-lost_cause a b from to at silence why pulled.Done c leaves = tt
-lost_cause a b from to at silence why (pulled.Bad error) c leaves = tt
-lost_cause a b from to at silence why (pulled.Lost cause) c leaves = subst (λ (l : Loss). LossCause a b from to silence l) (sym leaves.0) c
+lost_cause a b from to at new silence why (pulled.Data n) c leaves = tt
+lost_cause a b from to at new silence why pulled.More c leaves = tt
+lost_cause a b from to at new silence why pulled.Done c leaves = tt
+lost_cause a b from to at new silence why (pulled.Bad error) c leaves = tt
+lost_cause a b from to at new silence why (pulled.Lost cause) c leaves = subst (λ (l : Loss). LossCause a b from to silence l) (sym leaves.0) c
+
+-- a body that the link's end cuts short stands where it stood
+short_stays : (at : Place) → (HasBody at [] [] [] → ⊥) → behind_link at ≡ at
+short_stays (Counted left) short = refl
+short_stays (Chunked p) short = refl
+short_stays (ToEnd left) short = absurd (short (refl, refl, omega arith))
+short_stays (Refused fault) short = refl
+
+pub leaves_short : (at new : Place) → (HasBody at [] [] [] → ⊥) → new ≡ behind_link at → Leaves at new loss.End (pulled.Lost loss.End)
+leaves_short at new short is = (refl, short, is ∙ short_stays at short)

@@ -99,12 +99,12 @@ still_less out after more none is less =
 last_comes : (a b c : Side) (from mid : LinkView) (before : Passing) (at next : Place) (ahead left : List ℕ) (out after : OutView) (silence : Option ℕ) (p : Pull)
     → LinkLater from mid → (r : Filling a b from.number before (passing at ahead out))
     → (f : FillStep b c mid.number (passing at ahead out) (passing next left after) silence p)
-    → Waited a c (came_bill silence (came_of p)) (Comes from.number before.place before.ahead (r.given ++ f.given) left (came_of p))
+    → Waited a c (came_bill silence (came_of p)) (Comes from.number before.place before.ahead (r.given ++ f.given) next left (came_of p))
 last_comes a b c from mid before at next ahead left out after silence p later r f =
     let k = from.number in
-    let C = Comes k before.place before.ahead (r.given ++ f.given) left (came_of p) in
+    let C = Comes k before.place before.ahead (r.given ++ f.given) next left (came_of p) in
     waited_map (filled_by a b c k mid.number before at next ahead left out after silence p later.number r f) (λ l t. subst C (sym t.2)
-    (comes_then k before.place at before.ahead ahead left r.given f.given (came_of p) t.0 t.1 t.3 (comes_of k at next ahead left f.given p t.1 f.count t.4)))
+    (comes_then k before.place at next before.ahead ahead left r.given f.given (came_of p) t.0 t.1 t.3 (comes_of k at next ahead left f.given p t.1 f.count t.4)))
 
 pub first_done : (a b c : Side) (from mid : LinkView) (before : Passing) (at next : Place) (ahead left : List ℕ) (out after : OutView) (silence : Option ℕ)
     → LinkLater from mid → length out.begun < piece_limit → Filling a b from.number before (passing at ahead out)

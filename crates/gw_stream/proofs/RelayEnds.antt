@@ -21,7 +21,8 @@ use Rattle.gw_stream.specs.declared.waits.Stop.{Stop}
 use Rattle.gw_stream.specs.Drawing.{Draws, Pulled}
 use Rattle.gw_stream.specs.Filling.{FillStep, Passing, passing}
 use Rattle.gw_stream.specs.Outbox.{OutView, HasRoom, end_of, piece_of, rest_of}
-use Rattle.gw_stream.specs.Relaying.{Came, Comes, Interleaved, IsFront, RelayStep, TextFor, came_bill, relayed_by, relayed_of, text_of}
+use Rattle.gw_stream.specs.Relaying.{Came, Comes, Interleaved, IsFront, RelayStep, TextFor, came_bill, relayed_by, relayed_of, text_of, incoming}
+use Rattle.gw_stream.specs.declared.relaying.Incoming.{Incoming}
 use Rattle.gw_stream.specs.RelaySteps.{ClosedWhole, LastStep, RoomStep, ended_by, loaded}
 use Rattle.gw_stream.specs.ReplyLaws.{WholeStep, whole_out}
 use Rattle.gw_stream.specs.Waits.{Side, Says, SentStep, Waited, Writes, sent_bill, said_behind}
@@ -31,13 +32,13 @@ use Rattle.gw_stream.proofs.RelayLemmas.{Relaying, one_more, other_more, relayin
 use Rattle.gw_stream.proofs.TextLemmas.{whole_text}
 
 -- the source has stopped so; what is left of the text for it is to be written
-pub record Stopping (old new : Side) (source target : ℕ) (silence : Option ℕ) (before : Passing) (left : List ℕ) (out : OutView) (came : Came) (some : Bool) : Type 0 where
+pub record Stopping (old new : Side) (source target : ℕ) (silence : Option ℕ) (before : Passing) (stands : Incoming) (out : OutView) (came : Came) (some : Bool) : Type 0 where
   pub given : List ℕ
   pub wrote : List ℕ
   pub text_is : TextFor before.out.text before.out.in_chunks (before.out.begun ++ given) came (wrote ++ out.text)
   pub some_is : some ≡ nat_lt 0 (length wrote)
   pub size : out.size ≡ before.out.size
-  pub waited : Waited old new (came_bill silence came) (Interleaved (Writes target wrote) (Comes source before.place before.ahead given left came))
+  pub waited : Waited old new (came_bill silence came) (Interleaved (Writes target wrote) (Comes source before.place before.ahead given stands.body stands.inbox came))
 
 -- what was written and is ready is the text of the whole pieces
 front_so : (a b : Side) (s t : ℕ) (before : Passing) (at : Place) (ahead : List ℕ) (out : OutView) (some : Bool) → (r : Relaying a b s t before (passing at ahead out) some)
@@ -45,29 +46,29 @@ front_so : (a b : Side) (s t : ℕ) (before : Passing) (at : Place) (ahead : Lis
 front_so a b s t before at ahead out some r = record { pieces = r.pieces; rest = out.begun; data_is = r.data_is; whole = r.whole; text_is = sym r.text_is }
 
 pub stopping_spent : (a b : Side) (s t : ℕ) (silence : Option ℕ) (before : Passing) (at : Place) (ahead : List ℕ) (out : OutView) (some : Bool)
-    → Relaying a b s t before (passing at ahead out) some → Stopping a b s t silence before ahead out Came.Inside some
+    → Relaying a b s t before (passing at ahead out) some → Stopping a b s t silence before (incoming at ahead) out Came.Inside some
 stopping_spent a b s t silence before at ahead out some r = record {
   given = r.given;
   wrote = r.wrote;
   text_is = front_so a b s t before at ahead out some r;
   some_is = r.some_is;
   size = r.size;
-  waited = waited_map r.waited (λ l i. (i.0, i.1, i.2, i.3, (at, i.4)));
+  waited = r.waited;
 }
 
 -- what came last, whatever it was
 came_last : (a b c : Side) (s t link : ℕ) (silence : Option ℕ) (before : Passing) (at next : Place) (ahead left : List ℕ) (out after : OutView) (some : Bool) (p : Pull)
     → link ≡ s → (r : Relaying a b s t before (passing at ahead out) some) → (f : FillStep b c link (passing at ahead out) (passing next left after) silence p)
-    → Waited a c (came_bill silence (came_of p)) (Interleaved (Writes t r.wrote) (Comes s before.place before.ahead (r.given ++ f.given) left (came_of p)))
+    → Waited a c (came_bill silence (came_of p)) (Interleaved (Writes t r.wrote) (Comes s before.place before.ahead (r.given ++ f.given) next left (came_of p)))
 came_last a b c s t link silence before at next ahead left out after some p same r f =
     let W = Writes t r.wrote in
-    let C = Comes s before.place before.ahead (r.given ++ f.given) left (came_of p) in
+    let C = Comes s before.place before.ahead (r.given ++ f.given) next left (came_of p) in
     let F : Waited b c (came_bill silence (came_of p)) (Pulled s at ahead next left f.given p) =
     subst (λ (n : ℕ). Waited b c (came_bill silence (came_of p)) (Pulled n at ahead next left f.given p)) same
     (subst (λ (u : Bill). Waited b c u (Pulled link at ahead next left f.given p)) (bill_of silence p) f.waited)
     in
     let more = waited_map (waited_then r.waited F) (other_more W (Draws s before.place before.ahead r.given at ahead) (Pulled s at ahead next left f.given p) C
-    (λ x y d q. comes_then s before.place at before.ahead ahead left r.given f.given (came_of p) x y d (comes_of s at next ahead left f.given p y f.count q))) in
+    (λ x y d q. comes_then s before.place at next before.ahead ahead left r.given f.given (came_of p) x y d (comes_of s at next ahead left f.given p y f.count q))) in
     subst (λ (u : Bill). Waited a c u (Interleaved W C)) (free_both (came_bill silence (came_of p))) more
 
 -- in the body's middle
@@ -87,7 +88,7 @@ front_last a b c s t link silence before at next ahead left out after some p r f
 
 pub stopping_bad : (a b c : Side) (s t link : ℕ) (silence : Option ℕ) (before : Passing) (at next : Place) (ahead left : List ℕ) (out after : OutView) (some : Bool) (error : _)
     → link ≡ s → Relaying a b s t before (passing at ahead out) some → FillStep b c link (passing at ahead out) (passing next left after) silence (pulled.Bad error)
-    → Stopping a c s t silence before left after (Came.Bad error) some
+    → Stopping a c s t silence before (incoming next left) after (Came.Bad error) some
 stopping_bad a b c s t link silence before at next ahead left out after some error same r f = record {
   given = r.given ++ f.given;
   wrote = r.wrote;
@@ -99,7 +100,7 @@ stopping_bad a b c s t link silence before at next ahead left out after some err
 
 pub stopping_lost : (a b c : Side) (s t link : ℕ) (silence : Option ℕ) (before : Passing) (at next : Place) (ahead left : List ℕ) (out after : OutView) (some : Bool) (why : Loss)
     → link ≡ s → Relaying a b s t before (passing at ahead out) some → FillStep b c link (passing at ahead out) (passing next left after) silence (pulled.Lost why)
-    → Stopping a c s t silence before left after (Came.Lost why) some
+    → Stopping a c s t silence before (incoming next left) after (Came.Lost why) some
 stopping_lost a b c s t link silence before at next ahead left out after some why same r f = record {
   given = r.given ++ f.given;
   wrote = r.wrote;
@@ -119,7 +120,7 @@ pub stopping_done : (a b c : Side) (s t link : ℕ) (silence : Option ℕ) (befo
     → link ≡ s → length out.begun ≤ 8192 → Relaying a b s t before (passing at ahead out) some
     → FillStep b c link (passing at ahead out) (passing next left after) silence pulled.Done
     → closed ≡ record after { text = (after.text ++ rest_of after.in_chunks after.begun) ++ end_of after.in_chunks; begun = [] }
-    → Stopping a c s t silence before left closed Came.Done some
+    → Stopping a c s t silence before (incoming next left) closed Came.Done some
 stopping_done a b c s t link silence before at next ahead left out after closed some same most r f shut =
     let ch = before.out.in_chunks in
     let fm = flat_map (piece_of ch) r.pieces in
@@ -160,11 +161,11 @@ ended_so came some sent.All = refl
 ended_so came some (sent.Failed part) = refl
 ended_so came some (sent.Stopped why) = refl
 
-pub relay_ended : (a b c : Side) (s t : ℕ) (from to : LinkView) (silences : Silences) (before : Passing) (left : List ℕ) (out : OutView) (came : Came) (some : Bool) (result : Relayed)
-    → from.number ≡ t → Stopping a b s t silences.source before left out came some
-    → LastStep b c from to (loaded out some) silences.target (relayed_of came) result → RelayStep a c s t silences before left result
-relay_ended a b c s t from to silences before left out came some result same p m =
-    let C = Comes s before.place before.ahead p.given left came in
+pub relay_ended : (a b c : Side) (s t : ℕ) (from to : LinkView) (silences : Silences) (before : Passing) (stands : Incoming) (out : OutView) (came : Came) (some : Bool) (result : Relayed)
+    → from.number ≡ t → Stopping a b s t silences.source before stands out came some
+    → LastStep b c from to (loaded out some) silences.target (relayed_of came) result → RelayStep a c s t silences before stands result
+relay_ended a b c s t from to silences before stands out came some result same p m =
+    let C = Comes s before.place before.ahead p.given stands.body stands.inbox came in
     let said = said_behind some m.said in
     let S = Says t (p.wrote ++ out.text) said in
     let more = waited_map (waited_then p.waited m.sends.waited) (one_more (Writes t p.wrote) C (Says from.number out.text m.said) S
@@ -183,11 +184,11 @@ relay_ended a b c s t from to silences before left out came some result same p m
 unsent : (a b c : Side) (s t : ℕ) (from to : LinkView) (silences : Silences) (before : Passing) (at : Place) (ahead : List ℕ) (out after : OutView) (some now : Bool) (said : Sent)
     → from.number ≡ t → Relaying a b s t before (passing at ahead out) some
     → (m : RoomStep b c from to (loaded out some) (loaded after now) silences.target said) → after.text ≡ [] → now ≡ some
-    → RelayStep a c s t silences before ahead (ended_by now (relayed_of Came.Inside) said)
+    → RelayStep a c s t silences before (incoming at ahead) (ended_by now (relayed_of Came.Inside) said)
 unsent a b c s t from to silences before at ahead out after some now said same r m gone kept =
     let none : out.text ≡ m.text = m.text_is ∙ ap (λ l. m.text ++ l) gone ∙ append-nil m.text in
     let sends = subst (λ (l : List ℕ). SentStep b c from to l silences.target said) (sym none) m.sends in
-    relay_ended a b c s t from to silences before ahead out Came.Inside some (ended_by now (relayed_of Came.Inside) said) same
+    relay_ended a b c s t from to silences before (incoming at ahead) out Came.Inside some (ended_by now (relayed_of Came.Inside) said) same
     (stopping_spent a b s t silences.source before at ahead out some r)
     (record { said = said; sends = sends; result_is = ap (λ (k : Bool). ended_by k (relayed_of Came.Inside) said) kept })
 
@@ -198,16 +199,16 @@ closed_so a b s t before at ahead out closed some r c = (relaying_closed a b s t
 pub unsent_failed : (a b c : Side) (s : ℕ) (target from to : LinkView) (silences : Silences) (before : Passing) (at : Place) (ahead : List ℕ) (out closed after : OutView) (some now part : Bool) (result : Relayed)
     → LinkLater target from → Relaying a b s target.number before (passing at ahead out) some → ClosedWhole out closed
     → RoomStep b c from to (loaded closed some) (loaded after now) silences.target (sent.Failed part) → ended_by now (relayed_of Came.Inside) (sent.Failed part) ≡ result
-    → RelayStep a c s target.number silences before ahead result
+    → RelayStep a c s target.number silences before (incoming at ahead) result
 unsent_failed a b c s target from to silences before at ahead out closed after some now part result later r shut m is =
-    subst (λ (x : Relayed). RelayStep a c s target.number silences before ahead x) is
+    subst (λ (x : Relayed). RelayStep a c s target.number silences before (incoming at ahead) x) is
     (unsent a b c s target.number from to silences before at ahead closed after some now (sent.Failed part) later.number
     (closed_so a b s target.number before at ahead out closed some r shut) m m.clears.0 m.clears.1)
 
 pub unsent_stopped : (a b c : Side) (s : ℕ) (target from to : LinkView) (silences : Silences) (before : Passing) (at : Place) (ahead : List ℕ) (out closed after : OutView) (some now : Bool) (why : Stop)
     → LinkLater target from → Relaying a b s target.number before (passing at ahead out) some → ClosedWhole out closed
     → RoomStep b c from to (loaded closed some) (loaded after now) silences.target (sent.Stopped why)
-    → RelayStep a c s target.number silences before ahead (relayed.WriteStopped why)
+    → RelayStep a c s target.number silences before (incoming at ahead) (relayed.WriteStopped why)
 unsent_stopped a b c s target from to silences before at ahead out closed after some now why later r shut m =
     unsent a b c s target.number from to silences before at ahead closed after some now (sent.Stopped why) later.number
     (closed_so a b s target.number before at ahead out closed some r shut) m m.clears.0 m.clears.1

@@ -36,33 +36,33 @@ reads_taken link old new ahead d left acts draws = heard_bytes _ link ahead (dra
 
 -- ---- a whole body
 
-ending_bytes : (k : ℕ) (at : Place) (left : List ℕ) (ending : List Act) → EndsBy k at left ending → bytes_read k ending ≡ []
-ending_bytes k at left ending (inl e) = ap (bytes_read k) e.1
-ending_bytes k at left ending (inr e) = ap (bytes_read k) e.3
+ending_bytes : (k : ℕ) (at new : Place) (left : List ℕ) (ending : List Act) → EndsBy k at new left ending → bytes_read k ending ≡ []
+ending_bytes k at new left ending (inl e) = ap (bytes_read k) e.1
+ending_bytes k at new left ending (inr e) = ap (bytes_read k) e.3
 
-whole_from : (k : ℕ) (old at : Place) (used d left : List ℕ) (ending : List Act) → ((more e rest : List ℕ) → HasBody at more e rest ↔ HasBody old (used ++ more) (d ++ e) rest)
-    → EndsBy k at left ending → HasBody old (used ++ left) d left
-whole_from k old at used d left ending has (inl e) =
+whole_from : (k : ℕ) (old at new : Place) (used d left : List ℕ) (ending : List Act) → ((more e rest : List ℕ) → HasBody at more e rest ↔ HasBody old (used ++ more) (d ++ e) rest)
+    → EndsBy k at new left ending → HasBody old (used ++ left) d left
+whole_from k old at new used d left ending has (inl e) =
     subst (λ (l : List ℕ). HasBody old (used ++ left) l left) (append-nil d)
     ((has left [] left).0 (subst (λ (p : Place). HasBody p left [] left) (sym e.0) (refl, refl)))
-whole_from k old at used d left ending has (inr e) =
+whole_from k old at new used d left ending has (inr e) =
     subst (λ (l : List ℕ). HasBody old (used ++ l) d l) (sym e.2)
     (subst (λ (l : List ℕ). HasBody old (used ++ []) l []) (append-nil d) ((has [] [] []).0 e.1))
 
-completes_body : (link : ℕ) (old : Place) (ahead d left : List ℕ) (acts : List Act) → Completes link old ahead d left acts
+completes_body : (link : ℕ) (old new : Place) (ahead d left : List ℕ) (acts : List Act) → Completes link old ahead d new left acts
     → HasBody old (ahead ++ bytes_read link acts) d left
-completes_body link old ahead d left acts c =
+completes_body link old new ahead d left acts c =
     let t = c.draws in
     let same : bytes_read link acts ≡ bytes_read link t.0 =
     ap (bytes_read link) (t.2 ∙ ap (λ l. t.0 ++ l) t.4) ∙ flat_map-append (read_of link) t.0 c.ending
-    ∙ ap (λ l. bytes_read link t.0 ++ l) (ending_bytes link c.at left c.ending c.ends) ∙ append-nil (bytes_read link t.0)
+    ∙ ap (λ l. bytes_read link t.0 ++ l) (ending_bytes link c.at new left c.ending c.ends) ∙ append-nil (bytes_read link t.0)
     in
     subst (λ (l : List ℕ). HasBody old l d left) (sym (ap (λ l. ahead ++ l) same ∙ reads_taken link old c.at ahead d left t.0 t.3))
-    (whole_from link old c.at t.3.used d left c.ending t.3.takes.has c.ends)
+    (whole_from link old c.at new t.3.used d left c.ending t.3.takes.has c.ends)
 
 pub drawn_body : BodiesFromFirst → DrawnIsBody
-drawn_body bodies link framing ahead d left acts c =
-    (bodies framing (ahead ++ bytes_read link acts) d left).1 (completes_body link (begins framing) ahead d left acts c)
+drawn_body bodies link framing ahead d left new acts c =
+    (bodies framing (ahead ++ bytes_read link acts) d left).1 (completes_body link (begins framing) new ahead d left acts c)
 
 pub fronts_begin : FrontOfText
 fronts_begin head chunks d text f more = (text_of chunks (f.rest ++ more), front_of_text head chunks d text more f)
@@ -77,9 +77,9 @@ heard_own W k ahead bytes [] h = All-nil (IsOwn k)
 heard_own W k ahead bytes (act ∷ acts) h =
     All-cons (IsOwn k) act acts (ap (is_of k) h.2 ∙ eq-eqb k k refl) (heard_own W k (ahead ++ h.1) bytes acts h.3)
 
-ending_own : (k : ℕ) (at : Place) (left : List ℕ) (ending : List Act) → EndsBy k at left ending → Ours k ending
-ending_own k at left ending (inl e) = subst (Ours k) (sym e.1) (All-nil (IsOwn k))
-ending_own k at left ending (inr e) = subst (Ours k) (sym e.3) (All-cons (IsOwn k) (LinkEnd k) [] (eq-eqb k k refl) (All-nil (IsOwn k)))
+ending_own : (k : ℕ) (at new : Place) (left : List ℕ) (ending : List Act) → EndsBy k at new left ending → Ours k ending
+ending_own k at new left ending (inl e) = subst (Ours k) (sym e.1) (All-nil (IsOwn k))
+ending_own k at new left ending (inr e) = subst (Ours k) (sym e.3) (All-cons (IsOwn k) (LinkEnd k) [] (eq-eqb k k refl) (All-nil (IsOwn k)))
 
 loss_own : (k : ℕ) (why : Loss) → Ours k (loss_acts k why)
 loss_own k loss.End = All-cons (IsOwn k) (LinkEnd k) [] (eq-eqb k k refl) (All-nil (IsOwn k))
@@ -91,11 +91,11 @@ own_then k acts front back ending is same p q =
     subst (Ours k) (sym is) (All-append (IsOwn k) front back p (subst (Ours k) (sym same) q))
 
 pub comes_own : ComesOfLink
-comes_own link old ahead d left Came.Inside acts c = heard_own _ link ahead _ acts c.1.reads
-comes_own link old ahead d left Came.Done acts c =
-    let t = c.draws in own_then link acts t.0 t.1 c.ending t.2 t.4 (heard_own _ link ahead _ t.0 t.3.reads) (ending_own link c.at left c.ending c.ends)
-comes_own link old ahead d left (Came.Bad error) acts c = heard_own _ link ahead _ acts c.draws.reads
-comes_own link old ahead d left (Came.Lost why) acts c =
+comes_own link old new ahead d left Came.Inside acts c = heard_own _ link ahead _ acts c.reads
+comes_own link old new ahead d left Came.Done acts c =
+    let t = c.draws in own_then link acts t.0 t.1 c.ending t.2 t.4 (heard_own _ link ahead _ t.0 t.3.reads) (ending_own link c.at new left c.ending c.ends)
+comes_own link old new ahead d left (Came.Bad error) acts c = heard_own _ link ahead _ acts c.draws.reads
+comes_own link old new ahead d left (Came.Lost why) acts c =
     let t = c.draws in own_then link acts t.0 t.1 (loss_acts link why) t.2 t.4 (heard_own _ link ahead _ t.0 t.3.reads) (loss_own link why)
 
 writes_own : (k : ℕ) (acts : List Act) → All (IsWriteOf k) acts → Ours k acts

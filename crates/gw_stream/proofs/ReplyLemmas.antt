@@ -29,13 +29,13 @@ said_behind_all P Q l t =
     (t.1, t.0, subst (λ (m : List Act). Shuffle t.1 t.0 m) (sym t.2) (shuffle_one [] t.0 t.0 t.1 (shuffle_turned t.0 [] t.0 (one_alone t.0))), t.4, t.3)
 
 pub relay_follows : RelayFollows
-relay_follows a b c source target silences before mid head left result f r =
-    let C = Comes source mid.place mid.ahead r.given left r.came in
-    let D = Comes source before.place before.ahead (f.given ++ r.given) left r.came in
+relay_follows a b c source target silences before mid head after result f r =
+    let C = Comes source mid.place mid.ahead r.given after.body after.inbox r.came in
+    let D = Comes source before.place before.ahead (f.given ++ r.given) after.body after.inbox r.came in
     let S = Says target r.text r.said in
     let cost = both (came_bill silences.source r.came) (sent_bill silences.target r.said) in
     let more = waited_map (waited_then f.waited r.waited) (drawn_before S (Draws source before.place before.ahead f.given mid.place mid.ahead) C D
-    (λ x y d k. comes_then source before.place mid.place before.ahead mid.ahead left f.given r.given r.came x y d k)) in
+    (λ x y d k. comes_then source before.place mid.place after.body before.ahead mid.ahead after.inbox f.given r.given r.came x y d k)) in
     let text : TextFor (before.out.text ++ head) before.out.in_chunks ((before.out.begun ++ f.given) ++ r.given) r.came r.text =
     subst (λ (o : OutView). TextFor (o.text ++ head) o.in_chunks (o.begun ++ r.given) r.came r.text) f.out r.text_is
     in
@@ -61,7 +61,7 @@ whole_follows a b c source target from to silences before mid head result same f
     ap (λ (o : OutView). (o.text ++ head) ++ rest_of o.in_chunks o.begun ++ end_of o.in_chunks) f.out
     ∙ append_assoc (before.out.text ++ head) (rest_of chunks d) (end_of chunks) ∙ ap (λ l. (before.out.text ++ head) ++ l) (sym (last_text chunks d most))
     in
-    let C = Comes source before.place before.ahead f.given mid.ahead Came.Done in
+    let C = Comes source before.place before.ahead f.given mid.place mid.ahead Came.Done in
     let S = Says target text w.said in
     let U = waited_then f.waited w.sends.waited in
     let more = waited_map U (λ l t. said_behind_all S C l (

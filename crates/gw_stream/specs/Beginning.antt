@@ -20,9 +20,9 @@ IsBegun _ begun = length begun < piece_limit
 -- what came of the link
 abbrev pub Begins : ℕ → Place → List ℕ → List ℕ → Place → List ℕ → Began → List Act → Type 0
 Begins link old ahead d new left began.Piece acts = Draws link old ahead d new left acts
-Begins link old ahead d new left began.Whole acts = Completes link old ahead d left acts
-Begins link old ahead d new left (began.Bad error) acts = Faults link old ahead d error acts
-Begins link old ahead d new left (began.Lost why) acts = Loses link old ahead d why acts
+Begins link old ahead d new left began.Whole acts = Completes link old ahead d new left acts
+Begins link old ahead d new left (began.Bad error) acts = Faults link old ahead d new error acts
+Begins link old ahead d new left (began.Lost why) acts = Loses link old ahead d new why acts
 Begins link old ahead d new left began.Spent acts = Draws link old ahead d new left acts
 
 -- what that costs

@@ -23,7 +23,7 @@ ReadsAreTaken =
 -- section 6.3)
 abbrev pub DrawnIsBody : Type 0
 DrawnIsBody =
-    (link : ℕ) (framing : Framing) (ahead d left : List ℕ) (acts : List Act) → Completes link (begins framing) ahead d left acts
+    (link : ℕ) (framing : Framing) (ahead d left : List ℕ) (new : Place) (acts : List Act) → Completes link (begins framing) ahead d new left acts
     → BodyOf framing (ahead ++ bytes_read link acts) d left
 
 -- what was written of data so far begins the text of all data that begins with it
@@ -35,7 +35,7 @@ FrontOfText =
 -- what came of a link is logged as the link's own acts, and so is what was written to one
 abbrev pub ComesOfLink : Type 0
 ComesOfLink =
-    (link : ℕ) (old : Place) (ahead d left : List ℕ) (came : Came) (acts : List Act) → Comes link old ahead d left came acts → Ours link acts
+    (link : ℕ) (old new : Place) (ahead d left : List ℕ) (came : Came) (acts : List Act) → Comes link old ahead d new left came acts → Ours link acts
 
 abbrev pub SaysToLink : Type 0
 SaysToLink = (link : ℕ) (bytes : List ℕ) (said : Sent) (acts : List Act) → Says link bytes said acts → Ours link acts

@@ -9,6 +9,7 @@ use Rattle.gw_chunk.specs.Chunked.{coded, piece_limit}
 use Rattle.gw_chunk.specs.declared.error.ChunkError.{ChunkError}
 use Rattle.gw_body.specs.declared.place.Place.{Place}
 use Rattle.gw_account.specs.Work.{Bill, both, free}
+use Rattle.gw_stream.specs.declared.relaying.Incoming.{Incoming}
 use Rattle.gw_stream.specs.declared.relaying.Relayed.{Relayed}
 use Rattle.gw_stream.specs.declared.relaying.Relayed.TheVariants as relayed
 use Rattle.gw_stream.specs.declared.relaying.Silences.{Silences}
@@ -29,12 +30,12 @@ pub data Came : Type 0 where
   Bad : ChunkError → Came
   Lost : Loss → Came
 
--- from a place on this data came of a link, beside the bytes ahead, and then so
-abbrev pub Comes : ℕ → Place → List ℕ → List ℕ → List ℕ → Came → List Act → Type 0
-Comes link old ahead d left Came.Inside acts = (at : Place) × Draws link old ahead d at left acts
-Comes link old ahead d left Came.Done acts = Completes link old ahead d left acts
-Comes link old ahead d left (Came.Bad error) acts = Faults link old ahead d error acts
-Comes link old ahead d left (Came.Lost why) acts = Loses link old ahead d why acts
+-- from a place on this data came of a link, beside the bytes ahead, up to another place, and then so
+abbrev pub Comes : ℕ → Place → List ℕ → List ℕ → Place → List ℕ → Came → List Act → Type 0
+Comes link old ahead d new left Came.Inside acts = Draws link old ahead d new left acts
+Comes link old ahead d new left Came.Done acts = Completes link old ahead d new left acts
+Comes link old ahead d new left (Came.Bad error) acts = Faults link old ahead d new error acts
+Comes link old ahead d new left (Came.Lost why) acts = Loses link old ahead d new why acts
 
 -- what that costs
 abbrev pub came_bill : Option ℕ → Came → Bill
@@ -79,9 +80,12 @@ relayed_by came sent.All = relayed_of came
 relayed_by came (sent.Failed some) = relayed.WriteFailed some
 relayed_by came (sent.Stopped why) = relayed.WriteStopped why
 
+abbrev pub incoming : Place → List ℕ → Incoming
+incoming place ahead = record { body = place; inbox = ahead }
+
 -- This data came of the source, and the target was written the text for it behind what was on its way. Meanwhile
 -- nothing else was done.
-pub record RelayStep (old new : Side) (source target : ℕ) (silences : Silences) (before : Passing) (left : List ℕ) (result : Relayed) : Type 0 where
+pub record RelayStep (old new : Side) (source target : ℕ) (silences : Silences) (before : Passing) (after : Incoming) (result : Relayed) : Type 0 where
   pub given : List ℕ
   pub came : Came
   pub text : List ℕ
@@ -89,7 +93,7 @@ pub record RelayStep (old new : Side) (source target : ℕ) (silences : Silences
   pub text_is : TextFor before.out.text before.out.in_chunks (before.out.begun ++ given) came text
   pub result_is : result ≡ relayed_by came said
   pub waited : Waited old new (both (came_bill silences.source came) (sent_bill silences.target said))
-      (Interleaved (Says target text said) (Comes source before.place before.ahead given left came))
+      (Interleaved (Says target text said) (Comes source before.place before.ahead given after.body after.inbox came))
 
 -- when each answer of a relay may come, beside what its stretch says
 abbrev pub RelayCause : Side → Side → LinkView → LinkView → LinkView → LinkView → Silences → Relayed → Type 0

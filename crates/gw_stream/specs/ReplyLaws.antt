@@ -2,13 +2,14 @@
 use Rattle.std.specs.Prelude.{ℕ, ◌≡◌, List, ◌++◌, Option}
 use Rattle.gw_wire.specs.Link.{LinkView}
 use Rattle.gw_stream.specs.declared.beginning.Began.TheVariants as began
+use Rattle.gw_stream.specs.declared.relaying.Incoming.{Incoming}
 use Rattle.gw_stream.specs.declared.relaying.Relayed.{Relayed}
 use Rattle.gw_stream.specs.declared.relaying.Silences.{Silences}
 use Rattle.gw_stream.specs.declared.waits.Sent.{Sent}
 use Rattle.gw_stream.specs.Beginning.{FirstStep}
 use Rattle.gw_stream.specs.Filling.{Passing}
 use Rattle.gw_stream.specs.Outbox.{OutView, end_of, rest_of}
-use Rattle.gw_stream.specs.Relaying.{Came, RelayStep, relayed_by}
+use Rattle.gw_stream.specs.Relaying.{Came, RelayStep, incoming, relayed_by}
 use Rattle.gw_stream.specs.Waits.{Side, SentStep}
 
 -- with a head behind the text
@@ -28,9 +29,9 @@ pub record WholeStep (old new : Side) (from to : LinkView) (out : OutView) (sile
 -- a relay behind the body's first piece and a head is one from the body's beginning, with the head before its text
 abbrev pub RelayFollows : Type 0
 RelayFollows =
-    (a b c : Side) (source target : ℕ) (silences : Silences) (before mid : Passing) (head left : List ℕ) (result : Relayed)
-    → FirstStep a b source before mid silences.source began.Piece → RelayStep b c source target silences (with_head mid head) left result
-    → RelayStep a c source target silences (with_head before head) left result
+    (a b c : Side) (source target : ℕ) (silences : Silences) (before mid : Passing) (head : List ℕ) (after : Incoming) (result : Relayed)
+    → FirstStep a b source before mid silences.source began.Piece → RelayStep b c source target silences (with_head mid head) after result
+    → RelayStep a c source target silences (with_head before head) after result
 
 -- and so is the writing of a body that was whole before it had so much
 abbrev pub WholeFollows : Type 0
@@ -38,4 +39,4 @@ WholeFollows =
     (a b c : Side) (source target : ℕ) (from to : LinkView) (silences : Silences) (before mid : Passing) (head : List ℕ) (result : Relayed)
     → from.number ≡ target → FirstStep a b source before mid silences.source began.Whole
     → WholeStep b c from to (with_head mid head).out silences.target result
-    → RelayStep a c source target silences (with_head before head) mid.ahead result
+    → RelayStep a c source target silences (with_head before head) (incoming mid.place mid.ahead) result

@@ -48,8 +48,8 @@ enum Drawn {
     Bad(ChunkError),
 }
 
-/// Gives the next data of a body, at the front of a buffer. It comes of the bytes ahead; where those are used, the link
-/// is read once, and what came is ahead then. What stands behind a whole body stays there. It takes no memory. `silence`
+/// Gives the next data of a body, at the front of a buffer. It comes of the bytes ahead; where there are none, the link is
+/// read once, and what came is ahead then. So who has something to write before a wait asks first whether bytes are ahead. What stands behind a whole body stays there. It takes no memory. `silence`
 /// is as in [`Limit`](crate::Limit).
 pub fn pull_piece<W: Wire, G: Guard>(
     wire: &mut W,
@@ -72,12 +72,13 @@ pub fn pull_piece<W: Wire, G: Guard>(
     ensures kept { length buf.new ≡ length buf.old }
     ensures guard { G.keeper guard.new ≡ G.keeper guard.old }
 {
+    let idle = inbox.is_empty();
     match draw(body, inbox, buf) {
         Drawn::Data(count) => Pull::Data(count),
         Drawn::Done => Pull::Done,
         Drawn::Bad(error) => Pull::Bad(error),
         Drawn::More => {
-            if !inbox.is_empty() {
+            if !idle {
                 return Pull::More;
             }
             match inbox.hear(wire, guard, conn, silence) {
@@ -139,7 +140,7 @@ fn put(buf: &mut [u8], bytes: &[u8]) -> usize
 
 // What a link that brought nothing more leaves of a body: its end may be the body's.
 fn leave(body: &mut BodyReader, why: Loss) -> Pull
-    ensures { Leaves body.old why result }
+    ensures { Leaves body.old body.new why result }
 {
     match why {
         Loss::End => match body.link_ended() {

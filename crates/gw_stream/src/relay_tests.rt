@@ -273,3 +273,53 @@ fn head_and_body_in_one_write(rt: HostRuntime) -> Result<(), Fail> {
     assert!(rt; began == Began::Piece);
     Ok(())
 }
+
+// A read, a write, a read and a write.
+fn is_in_turn(acts: &[Act]) -> bool {
+    matches!(
+        acts,
+        [
+            Act::Read(7, _),
+            Act::Wrote(8, _),
+            Act::Read(7, _),
+            Act::Wrote(8, _)
+        ]
+    )
+}
+
+/// A whole piece is written before more of its body is waited for, also where what ends its chunk came with it.
+#[test]
+fn ready_before_a_wait(rt: HostRuntime) -> Result<(), Fail> {
+    let alloc = rt.alloc();
+    let mut wire = wire(alloc)?;
+    let mut chunk = b"2000\r\n".to_vec(alloc)?;
+    chunk.extend_from_slice(&[b'x'; 8_192])?;
+    chunk.extend_from_slice(b"\r\n")?;
+    let mut events = Vec::new(alloc);
+    events.push(ConnEvent::Piece(Bytes::new(chunk)))?;
+    events.push(ConnEvent::Piece(Bytes::new(b"0\r\n\r\n".to_vec(alloc)?)))?;
+    let mut source = MemConn::new(7, events, Vec::new(alloc));
+    let mut target = MemConn::new(8, Vec::new(alloc), Vec::new(alloc));
+    let mut from = Incoming {
+        body: BodyReader::new(Framing::Chunked),
+        inbox: Inbox::new(alloc)?,
+    };
+    let mut out = Outbox::new(alloc)?;
+    out.restart(true);
+    let silences = Silences {
+        source: None,
+        target: None,
+    };
+    let end = relay(
+        &mut wire,
+        &mut half_a_minute(),
+        &mut source,
+        &mut target,
+        &mut from,
+        &mut out,
+        silences,
+    );
+    assert!(rt; end == Relayed::Whole);
+    assert!(rt; is_in_turn(wire.acts()));
+    Ok(())
+}

@@ -72,7 +72,7 @@ pub fn relay<W: Wire, G: Guard>(
     requires looked { (G.guard guard.old).last ≤ (W.wire wire.old).moment }
     ensures step { RelayStep (side (W.wire wire.old) (G.guard guard.old)) (side (W.wire wire.new) (G.guard guard.new))
         (W.Conn.link source.old).number (W.Conn.link target.old).number silences (passing from.old.body from.old.inbox out.old)
-        from.new.inbox result }
+        from.new result }
     ensures cause { RelayCause (side (W.wire wire.old) (G.guard guard.old)) (side (W.wire wire.new) (G.guard guard.new))
         (W.Conn.link source.old) (W.Conn.link source.new) (W.Conn.link target.old) (W.Conn.link target.new) silences result }
     ensures source { LinkLater (W.Conn.link source.old) (W.Conn.link source.new) }

@@ -131,7 +131,7 @@ told_whole a b cl mid bytes count ms t =
 uploads : (a b c : Side) (cl mid : LinkView) (k : ℕ) (out : OutHead) (up now : Upload) (asked answer came_in answer_now : Incoming) (to_client : ℕ) (loaded : OutView) (ms : ℕ) (r : Relayed)
     → ms ≡ up.client_ms → (before : OutView) → loaded ≡ record before { text = out.bytes; begun = []; in_chunks = is_chunked out.framing }
     → CountedStep a b cl mid (continue_of up.expect) now.continued (Some up.client_ms) sent.All
-    → (m : RelayStep b c mid.number k (silences ms) (passing asked.body asked.inbox loaded) came_in.inbox r)
+    → (m : RelayStep b c mid.number k (silences ms) (passing asked.body asked.inbox loaded) came_in r)
     → Waited a c (both (came_bill (Some up.client_ms) m.came) (sent_bill None m.said))
     (Uploads (upload_view out cl.number up asked answer) (upload_view out to_client now came_in answer_now) k m.came m.said)
 uploads a b c cl mid k out up now asked answer came_in answer_now to_client loaded ms r silent before is t m =
@@ -147,13 +147,13 @@ uploads a b c cl mid k out up now asked answer came_in answer_now to_client load
       given = m.given;
       text = m.text;
       text_is = text_is;
-      does = (p.0, p.1, p.2, p.3, subst (λ (n : ℕ). Interleaved (Says k m.text m.said) (Comes n asked.body asked.inbox m.given came_in.inbox m.came) p.1) t.link.number p.4);
+      does = (p.0, p.1, p.2, p.3, subst (λ (n : ℕ). Interleaved (Says k m.text m.said) (Comes n asked.body asked.inbox m.given came_in.body came_in.inbox m.came) p.1) t.link.number p.4);
     }))
 
 pub upload_part : (a b c : Side) (cl mid last t t2 : LinkView) (k : ℕ) (out : OutHead) (up now : Upload) (asked answer came_in : Incoming) (loaded before : OutView) (ms : ℕ) (r : Relayed)
     → (result : Tried Begun End) → BreaksBy r result → ms ≡ up.client_ms → loaded ≡ record before { text = out.bytes; begun = []; in_chunks = is_chunked out.framing }
     → now ≡ record up { continued = now.continued } → CountedStep a b cl mid (continue_of up.expect) now.continued (Some up.client_ms) sent.All
-    → RelayStep b c mid.number k (silences ms) (passing asked.body asked.inbox loaded) came_in.inbox r → RelayCause b c mid last t t2 (silences ms) r → LinkLater mid last
+    → RelayStep b c mid.number k (silences ms) (passing asked.body asked.inbox loaded) came_in r → RelayCause b c mid last t t2 (silences ms) r → LinkLater mid last
     → AttemptStep a.wire c.wire a.guard c.guard
     (ExchangesUpload (upload_view out cl.number up asked answer) (upload_view out last.number now came_in answer) k result) result
 upload_part a b c cl mid last t t2 k out up now asked answer came_in loaded before ms r result breaks silent is same told m cause later =
@@ -187,7 +187,7 @@ whole_by came (sent.Stopped why) e = absurd (let bad : relayed.Whole ≡ relayed
 pub upload_whole : (a b c d : Side) (cl mid last at back : LinkView) (k : ℕ) (out : OutHead) (up now : Upload) (asked answer came_in answer_now : Incoming) (loaded before : OutView) (ms : ℕ)
     → (result : Tried Begun End) → ms ≡ up.client_ms → loaded ≡ record before { text = out.bytes; begun = []; in_chunks = is_chunked out.framing }
     → now ≡ record up { continued = now.continued } → CountedStep a b cl mid (continue_of up.expect) now.continued (Some up.client_ms) sent.All
-    → RelayStep b c mid.number k (silences ms) (passing asked.body asked.inbox loaded) came_in.inbox relayed.Whole → LinkLater mid last → at.number ≡ k
+    → RelayStep b c mid.number k (silences ms) (passing asked.body asked.inbox loaded) came_in relayed.Whole → LinkLater mid last → at.number ≡ k
     → ReplyStep c d at back out.method answer_now.body answer_now.inbox result
     → AttemptStep a.wire d.wire a.guard d.guard
     (ExchangesUpload (upload_view out cl.number up asked answer) (upload_view out last.number now came_in answer_now) k result) result

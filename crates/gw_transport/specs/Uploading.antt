@@ -145,7 +145,7 @@ pub record Uploads (from to : UploadView) (link : ℕ) (came : Came) (said : Sen
   pub given : List ℕ
   pub text : List ℕ
   pub text_is : TextFor from.out.bytes (is_chunked from.out.framing) given came text
-  pub does : Then (Writes from.client (continue_of from.expect)) (Interleaved (Says link text said) (Comes from.client from.body from.ahead given to.ahead came)) acts
+  pub does : Then (Writes from.client (continue_of from.expect)) (Interleaved (Says link text said) (Comes from.client from.body from.ahead given to.body to.ahead came)) acts
 
 -- the upload went whole, and the reply was awaited
 pub record UploadsWhole (from to : UploadView) (link : ℕ) (result : Tried Begun End) (late : Lateness) (a : At) (w : Work) : Type 0 where

@@ -1,9 +1,9 @@
 use Rattle.std.proofs.Common.{[]}
-use Rattle.gw_stream.proofs.DrawLemmas.{empty_of, pulled_bad, pulled_data, pulled_done, pulled_lost, pulled_more, pulled_read}
+use Rattle.gw_stream.proofs.DrawLemmas.{empty_of, none_left, pulled_bad, pulled_data, pulled_done, pulled_lost, pulled_more, pulled_read}
 use Rattle.gw_stream.proofs.drawing.pull_piece.Goals as goal
 
-pub returns-then-not-is_empty-clause-waited : goal.returns-then-not-is_empty-clause-waited
-returns-then-not-is_empty-clause-waited g c = pulled_more _ _ _ _ _ _ _ [] c.requires.fresh c.requires.looked c.in-More.ensures.step
+pub returns-then-not-idle-clause-waited : goal.returns-then-not-idle-clause-waited
+returns-then-not-idle-clause-waited g c = pulled_more _ _ _ _ _ _ _ [] c.requires.fresh c.requires.looked c.in-More.ensures.step
 
 pub returns-in-Data-clause-waited : goal.returns-in-Data-clause-waited
 returns-in-Data-clause-waited g c = pulled_data _ _ _ _ _ _ _ _ _ c.requires.fresh c.requires.looked c.in-Data.ensures.step
@@ -16,9 +16,14 @@ returns-in-Bad-clause-waited g c = pulled_bad _ _ _ _ c.draw.new.body _ c.draw.n
 
 pub returns-in-Got-clause-waited : goal.returns-in-Got-clause-waited
 returns-in-Got-clause-waited g c =
-    pulled_read _ _ _ _ _ _ _ _ [] _ (empty_of _ _ _ _ _ c.is_empty.ensures c.if-not-is_empty.false c.in-More.ensures.step) c.in-Got.ensures.step
+    let none = c.is_empty-idle.ensures.0 c.if-not-idle.false in
+    pulled_read _ _ _ _ _ _ _ _ [] _ none (empty_of _ _ _ _ none c.in-More.ensures.step) c.in-Got.ensures.step
 
 pub returns-in-Lost-clause-waited : goal.returns-in-Lost-clause-waited
 returns-in-Lost-clause-waited g c =
-    pulled_lost _ _ _ _ _ _ _ _ _ _ _ _ _ c.in-Lost.ensures.step.cause.1 (empty_of _ _ _ _ _ c.is_empty.ensures c.if-not-is_empty.false c.in-More.ensures.step)
+    let none = c.is_empty-idle.ensures.0 c.if-not-idle.false in
+    pulled_lost _ _ _ _ _ _ _ _ _ _ _ _ _ none c.in-Lost.ensures.step.cause.1 (empty_of _ _ _ _ none c.in-More.ensures.step)
     c.in-Lost.ensures.step c.leave.ensures
+
+pub hear-requires-clause-used : goal.hear-requires-clause-used
+hear-requires-clause-used g c κs within = none_left _ _ _ _ (c.is_empty-idle.ensures.0 c.if-not-idle.false) c.in-More.ensures.step
