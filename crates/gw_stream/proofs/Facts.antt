@@ -6,3 +6,4 @@ pub use Rattle.gw_stream.proofs.SendLemmas.{stop_cause, waited_behind, writes_no
 pub use Rattle.gw_stream.proofs.ComesLemmas.{draws_none, draws_then, hears_then, says_then, writes_then}
 pub use Rattle.gw_stream.proofs.RelayCauses.{Goes, goes_same, goes_waited, loss_within, stop_within}
 pub use Rattle.gw_stream.proofs.RelayLemmas.{one_more, other_more}
+pub use Rattle.gw_stream.proofs.RelayLawLemmas.{heard_bytes}

@@ -11,13 +11,15 @@ use Rattle.gw_wire.specs.Shuffle.{Ours}
 use Rattle.gw_body.specs.declared.place.Place.{Place}
 use Rattle.gw_body.specs.Laws.{BodiesFromFirst}
 use Rattle.gw_body.specs.Places.{begins, HasBody}
+use Rattle.gw_stream.specs.declared.drawing.Pull.TheVariants as pulled
 use Rattle.gw_stream.specs.declared.waits.Loss.{Loss}
 use Rattle.gw_stream.specs.declared.waits.Loss.TheVariants as loss
 use Rattle.gw_stream.specs.declared.waits.Sent.TheVariants as sent
 use Rattle.gw_stream.specs.Drawing.{Completes, EndsBy, HearsWhile}
 use Rattle.gw_stream.specs.Relaying.{Came, text_of}
-use Rattle.gw_stream.specs.RelayLaws.{ComesOfLink, DrawnIsBody, FrontOfText, ReadsAreTaken, SaysToLink}
+use Rattle.gw_stream.specs.RelayLaws.{ComesOfLink, DrawnIsBody, FrontOfText, PullsFollow, ReadsAreTaken, SaysToLink}
 use Rattle.gw_stream.specs.Waits.{IsWriteOf, loss_acts}
+use Rattle.gw_stream.proofs.ComesLemmas.{comes_of, comes_then}
 use Rattle.gw_stream.proofs.TextLemmas.{front_of_text}
 
 -- ---- bytes
@@ -25,7 +27,7 @@ use Rattle.gw_stream.proofs.TextLemmas.{front_of_text}
 reads_of : (k : ℕ) (piece : List ℕ) (acts : List Act) → bytes_read k (Read k piece ∷ acts) ≡ piece ++ bytes_read k acts
 reads_of k piece acts = rw (eq-eqb k k refl) refl
 
-heard_bytes : (W : List ℕ → Type 0) (k : ℕ) (ahead bytes : List ℕ) (acts : List Act) → HearsWhile W k ahead bytes acts → ahead ++ bytes_read k acts ≡ bytes
+pub heard_bytes : (W : List ℕ → Type 0) (k : ℕ) (ahead bytes : List ℕ) (acts : List Act) → HearsWhile W k ahead bytes acts → ahead ++ bytes_read k acts ≡ bytes
 heard_bytes W k ahead bytes [] h = append-nil ahead ∙ sym h
 heard_bytes W k ahead bytes (act ∷ acts) h =
     ap (λ a. ahead ++ bytes_read k (a ∷ acts)) h.2 ∙ ap (λ l. ahead ++ l) (reads_of k h.1 acts) ∙ sym (append_assoc ahead h.1 (bytes_read k acts))
@@ -63,6 +65,18 @@ completes_body link old new ahead d left acts c =
 pub drawn_body : BodiesFromFirst → DrawnIsBody
 drawn_body bodies link framing ahead d left new acts c =
     (bodies framing (ahead ++ bytes_read link acts) d left).1 (completes_body link (begins framing) new ahead d left acts c)
+
+pub pulls_behind : PullsFollow
+pulls_behind link old mid new ahead between left d e (pulled.Data n) x y size p q =
+    comes_then link old mid new ahead between left d e Came.Inside x y p (comes_of link mid new between left e (pulled.Data n) y size q)
+pulls_behind link old mid new ahead between left d e pulled.More x y size p q =
+    comes_then link old mid new ahead between left d e Came.Inside x y p (comes_of link mid new between left e pulled.More y size q)
+pulls_behind link old mid new ahead between left d e pulled.Done x y size p q =
+    comes_then link old mid new ahead between left d e Came.Done x y p (comes_of link mid new between left e pulled.Done y size q)
+pulls_behind link old mid new ahead between left d e (pulled.Bad error) x y size p q =
+    comes_then link old mid new ahead between left d e (Came.Bad error) x y p (comes_of link mid new between left e (pulled.Bad error) y size q)
+pulls_behind link old mid new ahead between left d e (pulled.Lost why) x y size p q =
+    comes_then link old mid new ahead between left d e (Came.Lost why) x y p (comes_of link mid new between left e (pulled.Lost why) y size q)
 
 pub fronts_begin : FrontOfText
 fronts_begin head chunks d text f more = (text_of chunks (f.rest ++ more), front_of_text head chunks d text more f)

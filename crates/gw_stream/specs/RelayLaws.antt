@@ -1,5 +1,5 @@
 -- Laws of what a relay says.
-use Rattle.std.specs.Prelude.{ℕ, ◌≡◌, Bool, List, ◌++◌}
+use Rattle.std.specs.Prelude.{ℕ, ◌≡◌, Bool, List, ◌++◌, length}
 use Rattle.gw_wire.specs.declared.values.Act.{Act}
 use Rattle.gw_wire.specs.Acts.{bytes_read}
 use Rattle.gw_wire.specs.Shuffle.{Ours}
@@ -7,8 +7,10 @@ use Rattle.gw_head.specs.declared.framing.Framing.{Framing}
 use Rattle.gw_body.specs.declared.place.Place.{Place}
 use Rattle.gw_body.specs.Body.{BodyOf}
 use Rattle.gw_body.specs.Places.{begins}
+use Rattle.gw_stream.specs.declared.drawing.Pull.{Pull}
+use Rattle.gw_stream.specs.declared.drawing.Pull.TheVariants as pulled
 use Rattle.gw_stream.specs.declared.waits.Sent.{Sent}
-use Rattle.gw_stream.specs.Drawing.{Completes, Draws}
+use Rattle.gw_stream.specs.Drawing.{Completes, Draws, Pulled, count_of}
 use Rattle.gw_stream.specs.Relaying.{Came, Comes, IsFront, text_of}
 use Rattle.gw_stream.specs.Waits.{Says}
 
@@ -39,3 +41,18 @@ ComesOfLink =
 
 abbrev pub SaysToLink : Type 0
 SaysToLink = (link : ℕ) (bytes : List ℕ) (said : Sent) (acts : List Act) → Says link bytes said acts → Ours link acts
+
+-- what a pull stopped at, or where it left the body open
+abbrev pub came_by : Pull → Came
+came_by (pulled.Data n) = Came.Inside
+came_by pulled.More = Came.Inside
+came_by pulled.Done = Came.Done
+came_by (pulled.Bad error) = Came.Bad error
+came_by (pulled.Lost why) = Came.Lost why
+
+-- pulls one behind the other draw the data of both
+abbrev pub PullsFollow : Type 0
+PullsFollow =
+    (link : ℕ) (old mid new : Place) (ahead between left d e : List ℕ) (result : Pull) (x y : List Act) → length e ≡ count_of result
+    → Draws link old ahead d mid between x → Pulled link mid between new left e result y
+    → Comes link old ahead (d ++ e) new left (came_by result) (x ++ y)

@@ -1,6 +1,6 @@
 //! Laws of bodies that are relayed. Each is a function whose `ensures` is the law.
 
-ghost use Rattle.gw_stream.specs.RelayLaws.{ComesOfLink, DrawnIsBody, FrontOfText, ReadsAreTaken, SaysToLink};
+ghost use Rattle.gw_stream.specs.RelayLaws.{ComesOfLink, DrawnIsBody, FrontOfText, PullsFollow, ReadsAreTaken, SaysToLink};
 ghost use Rattle.gw_stream.specs.ReplyLaws.{RelayFollows, WholeFollows};
 
 use gw_body::bodies_follow_places;
@@ -18,6 +18,11 @@ pub fn drawn_is_body()
 {
     bodies_follow_places();
 }
+
+/// Pulls one behind the other draw the data of both, up to where the last one stopped.
+pub fn pulls_follow()
+    ensures { PullsFollow }
+{}
 
 /// What a relay wrote of a body that stopped in its middle begins the text of all data that begins with what came.
 pub fn front_of_text()

@@ -18,7 +18,9 @@ pub use beginning::{Began, first_piece};
 pub use drawing::{Pull, pull_piece};
 pub use guard::{Guard, Sight};
 pub use inbox::Inbox;
-pub use laws::{drawn_is_body, front_of_text, reads_are_taken, relays_follow, sides_are_own};
+pub use laws::{
+    drawn_is_body, front_of_text, pulls_follow, reads_are_taken, relays_follow, sides_are_own,
+};
 pub use outbox::Outbox;
 pub use relaying::{Incoming, Relayed, Silences, relay, write_whole};
 pub use timer::Timer;
