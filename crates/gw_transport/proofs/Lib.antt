@@ -2,6 +2,7 @@ mod AttemptLemmas
 mod CallLemmas
 mod DialLemmas
 mod EndLemmas
+mod ExchangeLemmas
 mod FailLemmas
 mod HeadLemmas
 mod LeaseLemmas

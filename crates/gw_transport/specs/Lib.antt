@@ -7,3 +7,4 @@ pub mod Replying
 pub mod Sending
 pub mod Uploading
 pub mod Ending
+pub mod ExchangeLaws

@@ -4,6 +4,7 @@
 mod attempts;
 mod buffers;
 mod ending;
+mod laws;
 mod leasing;
 mod replying;
 mod sending;
@@ -13,6 +14,7 @@ mod watch;
 pub use attempts::{Attempted, Order, Tried, Trip, round_trip, upload_trip};
 pub use buffers::{Buffers, NoMemory};
 pub use ending::{finish, pull};
+pub use laws::{exchanges_are_text, exchanges_are_whole};
 pub use leasing::{Leased, close_expired, end_lease, lease};
 pub use replying::{Begun, End};
 pub use uploading::Upload;
