@@ -1,5 +1,5 @@
 -- The laws of exchanges.
-use Rattle.std.proofs.Common.{ℕ, ◌≡◌, true, false, List, [], ◌∷◌, ◌++◌, All, Option, refl, ap, sym, subst, ◌∙◌, append-nil, append_assoc, inl, inr}
+use Rattle.std.proofs.Common.{ℕ, ◌≡◌, true, false, List, [], ◌∷◌, ◌++◌, All, Option, refl, ap, sym, subst, ◌∙◌, append-nil, append_assoc, inl, inr, ne_eqb}
 use Rattle.std.proofs.lemmas.Grind.{flat_map-append}
 use Rattle.std.proofs.lemmas.List.Elements.{All-head, All-tail}
 use Rattle.gw_wire.specs.declared.values.Act.{Act}
@@ -7,6 +7,7 @@ use Rattle.gw_wire.specs.declared.values.Act.TheVariants.{Read, ReadFailed, Wrot
 use Rattle.gw_wire.specs.declared.values.Act.TheVariants.{End as LinkEnd}
 use Rattle.gw_wire.specs.Acts.{bytes_read, bytes_written, read_of, written_of}
 use Rattle.gw_wire.specs.Link.{LinkView}
+use Rattle.gw_wire.specs.Shuffle.{HasSide, OtherLinksDiffer, Ours, SecondSidesAreFound, SidesAreFound}
 use Rattle.gw_wire.specs.Stretch.{Acts, Then}
 use Rattle.gw_body.specs.declared.place.Place.{Place}
 use Rattle.gw_retry.specs.declared.Failure.{Failure}
@@ -14,17 +15,22 @@ use Rattle.gw_retry.specs.declared.Failure.TheVariants as failure
 use Rattle.gw_stream.specs.declared.waits.Sent.{Sent}
 use Rattle.gw_stream.specs.declared.waits.Sent.TheVariants as sent
 use Rattle.gw_stream.specs.declared.waits.Stop.TheVariants as stops
-use Rattle.gw_stream.specs.Drawing.{HearsWhile}
-use Rattle.gw_stream.specs.Waits.{IsWriteOf, Says, Writes}
+use Rattle.gw_stream.specs.declared.waits.Loss.{Loss}
+use Rattle.gw_stream.specs.declared.waits.Loss.TheVariants as loss
+use Rattle.gw_stream.specs.Drawing.{EndsBy, HearsWhile, IsPartFrom}
+use Rattle.gw_stream.specs.Relaying.{Came, Comes}
+use Rattle.gw_stream.specs.RelayLaws.{ComesOfLink, SaysToLink}
+use Rattle.gw_stream.specs.Waits.{IsWriteOf, Says, Writes, loss_acts}
 use Rattle.gw_stream.proofs.Facts.{heard_bytes}
 use Rattle.gw_transport.specs.declared.attempts.Tried.{Tried}
 use Rattle.gw_transport.specs.declared.attempts.Tried.TheVariants as tried
 use Rattle.gw_transport.specs.declared.replying.Begun.{Begun}
 use Rattle.gw_transport.specs.declared.replying.End.{End}
 use Rattle.gw_transport.specs.declared.replying.End.TheVariants as end
-use Rattle.gw_transport.specs.ExchangeLaws.{ExchangesAreWhole, IsFrontOfRequest, IsReadOfReply, RepliesAreRead, RequestsAreWritten}
+use Rattle.gw_transport.specs.ExchangeLaws.{ExchangesAreWhole, IsFrontOfRequest, IsReadOfReply, RepliesAreRead, RequestsAreWritten, UploadsAreApart}
 use Rattle.gw_transport.specs.Replying.{HearsReply, IsOpenReply, LosesReply, Replies}
 use Rattle.gw_transport.specs.Sending.{Exchanges, Unsent}
+use Rattle.gw_transport.specs.Uploading.{UploadView, Uploads, continue_of}
 use Rattle.gw_transport.proofs.StretchLemmas.{stretch_part, stretch_then, stretch_waited}
 
 -- writes read nothing, and reads write nothing
@@ -142,3 +148,69 @@ exchanges_whole link x y z w a b c f g h errand from to l r u d left new came re
   trip.step.late,
   stretch_then trip.step.did (stretch_then (stretch_waited b wait) (stretch_part h wait.watched.goes.seen e.did)),
 )
+
+-- ---- both links of an upload
+
+writes_silent : (k j : ℕ) (acts : List Act) → All (IsWriteOf j) acts → bytes_read k acts ≡ []
+writes_silent k j [] w = refl
+writes_silent k j (act ∷ acts) w =
+    let first = All-head (IsWriteOf j) act acts w in
+    ap (λ a. bytes_read k (a ∷ acts)) first.1 ∙ writes_silent k j acts (All-tail (IsWriteOf j) act acts w)
+
+-- writes to one link give another one nothing
+elsewhere : (k j : ℕ) (piece : List ℕ) (acts : List Act) → (j ≡ k → ⊥) → bytes_written k (Wrote j piece ∷ acts) ≡ bytes_written k acts
+elsewhere k j piece acts apart = rw (ne_eqb j k apart) refl
+
+writes_elsewhere : (k j : ℕ) (acts : List Act) → (j ≡ k → ⊥) → All (IsWriteOf j) acts → bytes_written k acts ≡ []
+writes_elsewhere k j [] apart w = refl
+writes_elsewhere k j (act ∷ acts) apart w =
+    let first = All-head (IsWriteOf j) act acts w in
+    ap (λ a. bytes_written k (a ∷ acts)) first.1 ∙ elsewhere k j first.0 acts apart
+    ∙ writes_elsewhere k j acts apart (All-tail (IsWriteOf j) act acts w)
+
+says_unread : (k : ℕ) (text : List ℕ) (said : Sent) (acts : List Act) → Says k text said acts → bytes_read k acts ≡ []
+says_unread k text sent.All acts s = writes_silent k k acts s.only
+says_unread k text (sent.Failed some) acts s =
+    let t = s.4 in read_both k t.0 t.1 acts t.2 ∙ ap (λ b. b ++ bytes_read k t.1) (writes_silent k k t.0 t.3.only) ∙ ap (bytes_read k) t.4
+says_unread k text (sent.Stopped why) acts s = writes_silent k k acts s.3.only
+
+ending_quiet : (k : ℕ) (at new : Place) (left : List ℕ) (ending : List Act) → EndsBy k at new left ending → IsQuiet k ending
+ending_quiet k at new left ending (inl e) = ap (bytes_written k) e.1
+ending_quiet k at new left ending (inr e) = ap (bytes_written k) e.3
+
+loss_quiet : (k : ℕ) (why : Loss) → IsQuiet k (loss_acts k why)
+loss_quiet k loss.End = refl
+loss_quiet k loss.Failed = refl
+loss_quiet k (loss.Stopped why) = refl
+
+comes_quiet : (k : ℕ) (old new : Place) (ahead d left : List ℕ) (came : Came) (acts : List Act) → Comes k old ahead d new left came acts → IsQuiet k acts
+comes_quiet k old new ahead d left Came.Inside acts c = reads_unwritten (IsPartFrom old) k ahead (c.used ++ left) acts c.reads
+comes_quiet k old new ahead d left Came.Done acts c =
+    let t = c.draws in
+    quiet_then k t.0 t.1 acts t.2 (reads_unwritten (IsPartFrom old) k ahead (t.3.used ++ left) t.0 t.3.reads)
+    (ap (bytes_written k) t.4 ∙ ending_quiet k c.at new left c.ending c.ends)
+comes_quiet k old new ahead d left (Came.Bad error) acts c = reads_unwritten (IsPartFrom old) k ahead (c.draws.used ++ (c.front ++ c.left)) acts c.draws.reads
+comes_quiet k old new ahead d left (Came.Lost why) acts c =
+    let t = c.draws in
+    quiet_then k t.0 t.1 acts t.2 (reads_unwritten (IsPartFrom old) k ahead (t.3.used ++ []) t.0 t.3.reads) (ap (bytes_written k) t.4 ∙ loss_quiet k why)
+
+pub uploads_apart : SidesAreFound → SecondSidesAreFound → OtherLinksDiffer → ComesOfLink → SaysToLink → UploadsAreApart
+uploads_apart found second differ comes says from to link came said acts apart u =
+    let t = u.does in
+    let i = t.4 in
+    let client : ℕ = from.client in
+    let ours : Ours link i.0 = says link u.text said i.0 i.3 in
+    let theirs : Ours client i.1 = comes client from.body to.body from.ahead u.given to.ahead came i.1 i.4 in
+    let on_link : HasSide link i.0 t.1 = found link i.0 i.1 t.1 ours (differ link client i.1 (λ e. apart (sym e)) theirs) i.2 in
+    let on_client : HasSide client i.1 t.1 = second client i.0 i.1 t.1 (differ client link i.0 apart ours) theirs i.2 in
+    let front = says_front link u.text said i.0 i.3 in
+    record {
+      told = written_both client t.0 t.1 acts t.2 ∙ ap (λ b. b ++ bytes_written client t.1) t.3.all
+          ∙ ap (λ b. continue_of from.expect ++ b) (on_client.written ∙ comes_quiet client from.body to.body from.ahead u.given to.ahead came i.1 i.4)
+          ∙ append-nil (continue_of from.expect);
+      unread = read_both link t.0 t.1 acts t.2 ∙ ap (λ b. b ++ bytes_read link t.1) (writes_silent link client t.0 t.3.only)
+          ∙ on_link.read ∙ says_unread link u.text said i.0 i.3;
+      rest = front.rest;
+      front = ap (λ b. b ++ front.rest) (written_both link t.0 t.1 acts t.2 ∙ ap (λ b. b ++ bytes_written link t.1) (writes_elsewhere link client t.0 apart t.3.only)
+          ∙ on_link.written) ∙ front.front;
+    }

@@ -10,6 +10,7 @@ use Rattle.gw_pool.specs.declared.leases.Lease.{Lease}
 use Rattle.gw_pool.specs.Lent.{Lent}
 use Rattle.gw_account.specs.Did.{span}
 use Rattle.gw_account.specs.Work.{Bill, Only, Seq}
+use Rattle.gw_stream.specs.declared.waits.Sent.{Sent}
 use Rattle.gw_stream.specs.Guard.{GuardView}
 use Rattle.gw_stream.specs.Relaying.{Came, Comes}
 use Rattle.gw_stream.specs.Waits.{Waited, side}
@@ -24,6 +25,7 @@ use Rattle.gw_transport.specs.Parts.{Ends, Expires}
 use Rattle.gw_transport.specs.Replying.{Informs}
 use Rattle.gw_transport.specs.Sending.{Exchanges, ExchangesKept, KeptView}
 use Rattle.gw_transport.specs.Stretch.{Stretch}
+use Rattle.gw_transport.specs.Uploading.{UploadView, Uploads, continue_of}
 
 -- what a backend's link took is a front of the request, and all of it where anything was read of the link
 pub record IsFrontOfRequest (link : ℕ) (text : List ℕ) (acts : List Act) : Type 0 where
@@ -63,3 +65,16 @@ ExchangesAreWhole {C} link =
     × Stretch (span x w a c) f h
     (Seq (Seq (Expires at) (AttemptedBy {C = C} {E = End} ExchangesKept errand from to (attempted.Reply l r) late))
     (Seq (Only u (Comes l.link to.place to.ahead d new left came)) (Ends reusable l.no)))
+
+-- What an upload did on either link, where their numbers differ: the client was told to go on, if it waits for that, and
+-- nothing else; nothing was read of the backend's link, which took a front of the text for what came.
+pub record IsApart (from : UploadView) (link : ℕ) (text : List ℕ) (acts : List Act) : Type 0 where
+  pub told : bytes_written from.client acts ≡ continue_of from.expect
+  pub unread : bytes_read link acts ≡ []
+  pub rest : List ℕ
+  pub front : bytes_written link acts ++ rest ≡ text
+
+abbrev pub UploadsAreApart : Type 0
+UploadsAreApart =
+    (from to : UploadView) (link : ℕ) (came : Came) (said : Sent) (acts : List Act) → (from.client ≡ link → ⊥) → (u : Uploads from to link came said acts)
+    → IsApart from link u.text acts

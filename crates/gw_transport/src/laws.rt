@@ -1,8 +1,9 @@
 //! Laws of exchanges. Each is a function whose `ensures` is the law.
 
-ghost use Rattle.gw_transport.specs.ExchangeLaws.{ExchangesAreWhole, RepliesAreRead, RequestsAreWritten};
+ghost use Rattle.gw_transport.specs.ExchangeLaws.{ExchangesAreWhole, RepliesAreRead, RequestsAreWritten, UploadsAreApart};
 
-use gw_wire::Link;
+use gw_stream::sides_are_own;
+use gw_wire::{Link, other_links_differ, second_sides_are_found, sides_are_found};
 
 /// What a backend's link took of a request with a kept body is a front of its text, and all of it where anything was read
 /// of the link. What was read where a reply began is its head, behind at most five informational ones, and what is ahead.
@@ -15,3 +16,14 @@ pub fn exchanges_are_text()
 pub fn exchanges_are_whole<C: Link>()
     ensures { ExchangesAreWhole C.link }
 {}
+
+/// Where a client's link and a backend's have two numbers, an upload wrote to the client what tells it to go on and nothing
+/// else, and to the backend a front of the request's text. Nothing was read of the backend.
+pub fn uploads_are_apart()
+    ensures { UploadsAreApart }
+{
+    sides_are_own();
+    sides_are_found();
+    second_sides_are_found();
+    other_links_differ();
+}
