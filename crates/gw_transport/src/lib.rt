@@ -11,6 +11,10 @@ pub use leasing::{Leased, close_expired, end_lease, lease};
 pub use watch::{Watch, first_deadline_is_least};
 
 #[cfg(test)]
+mod attempt_tests;
+#[cfg(test)]
+mod lease_tests;
+#[cfg(test)]
 mod tests;
 #[cfg(test)]
 mod watch_tests;

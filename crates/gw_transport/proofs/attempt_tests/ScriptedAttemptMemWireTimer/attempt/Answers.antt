@@ -9,7 +9,7 @@ use Rattle.gw_transport.specs.Attempts.{AttemptStep, TriedCause}
 use Rattle.gw_stream.specs.Guard.{GuardView}
 use Rattle.gw_transport.specs.Leasing.{Lateness}
 use Rattle.gw_stream.proofs.Facts.{guard_same}
-use Rattle.gw_transport.proofs.tests.ScriptedAttemptMemWireTimer.attempt.Goals as goal
+use Rattle.gw_transport.proofs.attempt_tests.ScriptedAttemptMemWireTimer.attempt.Goals as goal
 
 did_nothing : {R E : Type 0} (wire : WireView) (g : GuardView) (result : Tried R E) → wire.aged ≡ false → g.last ≤ wire.moment → TriedCause g g wire.moment Lateness.ByDeadline result
     → AttemptStep wire wire g g (λ late. Idle) result
