@@ -8,6 +8,7 @@ mod LeaseLemmas
 mod RestLemmas
 mod SeqLemmas
 mod StretchLemmas
+mod TokenLemmas
 mod WaitLemmas
 mod WantLemmas
 mod WatchLemmas

@@ -13,6 +13,8 @@ pub use watch::{Watch, first_deadline_is_least};
 #[cfg(test)]
 mod attempt_tests;
 #[cfg(test)]
+mod idle_tests;
+#[cfg(test)]
 mod lease_tests;
 #[cfg(test)]
 mod tests;
