@@ -2,4 +2,12 @@
 #![tactic(auto)]
 
 #[cfg(test)]
+mod cancel_tests;
+#[cfg(test)]
+mod losing_tests;
+#[cfg(test)]
+mod owed;
+#[cfg(test)]
+mod place_tests;
+#[cfg(test)]
 mod tests;

@@ -11,6 +11,7 @@ mod RestLemmas
 mod SendingLemmas
 mod SeqLemmas
 mod StretchLemmas
+mod TokenLemmas
 mod UploadLemmas
 mod WaitLemmas
 mod WantLemmas

@@ -21,6 +21,10 @@ pub use uploading::Upload;
 pub use watch::{Watch, first_deadline_is_least};
 
 #[cfg(test)]
+mod idle_tests;
+#[cfg(test)]
+mod lease_tests;
+#[cfg(test)]
 mod tests;
 #[cfg(test)]
 mod watch_tests;
