@@ -132,3 +132,6 @@ fn row(
     )?;
     Ok(())
 }
+
+#[cfg(test)]
+mod tests;

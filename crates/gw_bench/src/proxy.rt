@@ -118,8 +118,8 @@ fn serve_one(
     Ok(())
 }
 
-// Passes one message on, and says whether it came and went whole.
-fn pass<W: Wire, G: Guard>(
+/// Passes one message on, and says whether it came and went whole.
+pub(crate) fn pass<W: Wire, G: Guard>(
     wire: &mut W,
     guard: &mut G,
     source: &mut W::Conn,
