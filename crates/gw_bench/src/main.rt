@@ -1,12 +1,16 @@
 //! How long the router takes for a decision: over one route and over many, and for paths with a long segment. With the
-//! word `decisions` the program prints a table, and without words it ends at once.
+//! word `decisions` the program prints a table. With the words `relay PORT BACKEND FORM LENGTH` it is a proxy between two
+//! ports of this machine, over which bodies are measured that are relayed. Without words it ends at once.
 #![tactic(auto)]
 
+mod proxy;
 mod tables;
 mod timing;
 
+use crate::proxy::{form_of, serve};
 use crate::tables::{branching, mux_of, numbered, one, side_by_side};
 use crate::timing::{Asked, best_time};
+use anyhow::{Context, bail};
 use gw_mux::Mux;
 use std::env;
 
@@ -20,15 +24,43 @@ const SELDOM: u32 = 400;
 const LONG: usize = 65_400;
 
 fn main(rt: HostRuntime) -> Result<(), anyhow::Error> {
+    let mut words = Vec::new(rt.alloc());
     for word in env::args(&rt)?.skip(1) {
-        if word.as_str() == "decisions" {
-            println!(rt; "| Decision | over one route, ns | over many, ns | ratio |")?;
-            println!(rt; "|---|---|---|---|")?;
-            short_paths(&rt)?;
-            long_paths(&rt)?;
-        }
+        words.push(word)?;
     }
-    Ok(())
+    match words.as_slice() {
+        [] => Ok(()),
+        [word] if word.as_str() == "decisions" => decisions(&rt),
+        [word, port, backend, form, length] if word.as_str() == "relay" => relayed(
+            &rt,
+            port.as_str(),
+            backend.as_str(),
+            form.as_str(),
+            length.as_str(),
+        ),
+        _ => bail!("words that are no command"),
+    }
+}
+
+fn decisions(rt: &HostRuntime) -> Result<(), anyhow::Error> {
+    println!(rt; "| Decision | over one route, ns | over many, ns | ratio |")?;
+    println!(rt; "|---|---|---|---|")?;
+    short_paths(rt)?;
+    long_paths(rt)
+}
+
+fn relayed(
+    rt: &HostRuntime,
+    port: &str,
+    backend: &str,
+    form: &str,
+    length: &str,
+) -> Result<(), anyhow::Error> {
+    let port = port.parse::<u16>().context("the port")?;
+    let backend = backend.parse::<u16>().context("the backend's port")?;
+    let length = length.parse::<u64>().context("the length")?;
+    let form = form_of(form, length).context("no such form")?;
+    serve(rt, port, backend, form)
 }
 
 // 1,024 routes, each beside a router with the route that answers alone.
@@ -100,3 +132,6 @@ fn row(
     )?;
     Ok(())
 }
+
+#[cfg(test)]
+mod tests;
