@@ -11,6 +11,7 @@ mod RelayCauses
 mod RelayEnds
 mod RelayLawLemmas
 mod RelayLemmas
+mod RelayStops
 mod ReplyLemmas
 mod SendLemmas
 mod TextLemmas

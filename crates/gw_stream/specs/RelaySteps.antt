@@ -1,12 +1,14 @@
 -- The steps of a relay on its target's side.
-use Rattle.std.specs.Prelude.{ℕ, ◌≡◌, ◌<◌, ◌⊎◌, Bool, ◌||◌, List, [], ◌++◌, length, nat_lt, Option}
+use Rattle.std.specs.Prelude.{ℕ, ◌≡◌, ◌<◌, ◌⊎◌, Bool, ◌||◌, List, [], ◌++◌, length, nat_lt, Option, Some, None}
 use Rattle.gw_wire.specs.Link.{LinkView}
 use Rattle.gw_chunk.specs.Chunked.{piece_limit}
+use Rattle.gw_stream.specs.declared.drawing.Pull.{Pull}
+use Rattle.gw_stream.specs.declared.drawing.Pull.TheVariants as pulled
 use Rattle.gw_stream.specs.declared.relaying.Relayed.{Relayed}
 use Rattle.gw_stream.specs.declared.relaying.Relayed.TheVariants as relayed
 use Rattle.gw_stream.specs.declared.waits.Sent.{Sent}
 use Rattle.gw_stream.specs.declared.waits.Sent.TheVariants as sent
-use Rattle.gw_stream.specs.Outbox.{OutView, HasRoom, rest_of}
+use Rattle.gw_stream.specs.Outbox.{OutView, HasRoom, end_of, rest_of}
 use Rattle.gw_stream.specs.Waits.{Side, SentStep}
 
 -- a piece that had the most data that one has is a part of the text now
@@ -35,6 +37,16 @@ pub record RoomStep (old new : Side) (from to : LinkView) (before after : Loaded
   pub rest : after.out ≡ record before.out { text = after.out.text }
   pub clears : Clears before after text result
   pub sends : SentStep old new from to text silence result
+
+-- a relay goes on behind a pull, or stops so, its body closed where it is whole
+abbrev pub StopsSo : Pull → OutView → OutView → Option Relayed → Type 0
+StopsSo (pulled.Data n) before after result = (result ≡ None) × (after ≡ before)
+StopsSo pulled.More before after result = (result ≡ None) × (after ≡ before)
+StopsSo pulled.Done before after result =
+    (result ≡ Some relayed.Whole)
+    × (after ≡ record before { text = before.text ++ rest_of before.in_chunks before.begun ++ end_of before.in_chunks; begun = [] })
+StopsSo (pulled.Bad error) before after result = (result ≡ Some (relayed.Bad error)) × (after ≡ before)
+StopsSo (pulled.Lost why) before after result = (result ≡ Some (relayed.Lost why)) × (after ≡ before)
 
 -- how a relay ends that stops so, by its last write
 abbrev pub ended_by : Bool → Relayed → Sent → Relayed

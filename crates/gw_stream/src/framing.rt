@@ -6,7 +6,7 @@ ghost use Rattle.gw_stream.specs.Outbox.{begun_of, end_of, gap_of, piece_of, res
 
 use gw_chunk::{END_LEN, FRAME_BEFORE, FRAME_BEHIND, PIECE_LIMIT, end_text, frame_piece};
 
-// How many bytes stand between the text and the data of a piece.
+/// How many bytes stand between the text and the data of a piece.
 pub(crate) fn gap(chunks: bool) -> usize
     ensures { result ≡ gap_of chunks }
 {

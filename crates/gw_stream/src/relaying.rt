@@ -6,7 +6,7 @@ ghost use Rattle.gw_wire.specs.Link.{LinkLater};
 ghost use Rattle.gw_stream.specs.Filling.{passing};
 ghost use Rattle.gw_stream.specs.Outbox.{HasRoom, piece_room};
 ghost use Rattle.gw_stream.specs.Relaying.{RelayCause, RelayStep};
-ghost use Rattle.gw_stream.specs.RelaySteps.{ClosedWhole, LastStep, RoomStep, loaded};
+ghost use Rattle.gw_stream.specs.RelaySteps.{ClosedWhole, LastStep, RoomStep, StopsSo, loaded};
 ghost use Rattle.gw_stream.specs.ReplyLaws.{WholeStep};
 ghost use Rattle.gw_stream.specs.Waits.{side};
 
@@ -89,48 +89,18 @@ pub fn relay<W: Wire, G: Guard>(
             Sent::Failed(part) => return Relayed::WriteFailed(some || part),
             Sent::Stopped(why) => return Relayed::WriteStopped(why),
         }
-        match out.fill(
+        let pulled = out.fill(
             wire,
             guard,
             source,
             &mut from.body,
             &mut from.inbox,
             silences.source,
-        ) {
-            Pull::Data(_) | Pull::More => {}
-            Pull::Done => {
-                out.close_body();
-                return write_last(
-                    wire,
-                    guard,
-                    target,
-                    out,
-                    some,
-                    silences.target,
-                    Relayed::Whole,
-                );
-            }
-            Pull::Bad(error) => {
-                return write_last(
-                    wire,
-                    guard,
-                    target,
-                    out,
-                    some,
-                    silences.target,
-                    Relayed::Bad(error),
-                );
-            }
-            Pull::Lost(why) => {
-                return write_last(
-                    wire,
-                    guard,
-                    target,
-                    out,
-                    some,
-                    silences.target,
-                    Relayed::Lost(why),
-                );
+        );
+        match stop_of(out, pulled) {
+            None => {}
+            Some(stop) => {
+                return write_last(wire, guard, target, out, some, silences.target, stop);
             }
         }
     }
@@ -212,6 +182,22 @@ fn make_room<W: Wire, G: Guard>(
         *some = *some || ready;
     }
     sent
+}
+
+// How a relay stops behind this pull, if it does. Behind a whole body its last piece is closed.
+fn stop_of(out: &mut Outbox, pulled: Pull) -> Option<Relayed>
+    requires { HasRoom out.old }
+    ensures { StopsSo pulled out.old out.new result }
+{
+    match pulled {
+        Pull::Data(_) | Pull::More => None,
+        Pull::Done => {
+            out.close_body();
+            Some(Relayed::Whole)
+        }
+        Pull::Bad(error) => Some(Relayed::Bad(error)),
+        Pull::Lost(why) => Some(Relayed::Lost(why)),
+    }
 }
 
 // Writes the text that is left where a relay stops so.
