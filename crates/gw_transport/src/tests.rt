@@ -10,21 +10,21 @@ use gw_wire::{Accept, Act, Addr, DialEvent, MemConn, MemWire, Moment, Script, Wi
 use std::alloc::{AllocError, Global};
 use std::test::Fail;
 
-const NOW: u64 = 784_111_777_000;
+pub(crate) const NOW: u64 = 784_111_777_000;
 
-const BACKEND: Addr = Addr {
+pub(crate) const BACKEND: Addr = Addr {
     local: true,
     ip: [127, 0, 0, 1],
     port: 9_000,
 };
 
-fn half_a_minute() -> Timer
+pub(crate) fn half_a_minute() -> Timer
     ensures { result.last ≡ 0 }
 {
     Timer::new(Some(NOW + 30_000))
 }
 
-fn limits(journal: u32) -> Limits
+pub(crate) fn limits(journal: u32) -> Limits
     ensures hosts { 0 < result.hosts }
     ensures passes { 0 < result.passes }
     ensures per_pass { 0 < result.per_pass }
