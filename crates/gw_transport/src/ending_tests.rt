@@ -1,14 +1,15 @@
-//! What is pulled of replies, and whether their connections are kept, over a wire in memory.
+//! How trips end: whether the connections of their replies are kept, and where they are stopped, over a wire in memory.
 
 ghost use Rattle.std.specs.Prelude.{◌≡◌, ◌≤◌, ◌<◌, false};
 
 use crate::buffers::Buffers;
-use crate::test_links::{Line, is_closed, wire};
+use crate::test_links::{Line, dials, is_closed, taken, wire};
 use crate::tests::{NOW, half_a_minute, limits};
-use crate::trip_tests::{Asked, Came, EIGHT, GET_HEAD, HELLO, Verb, out_head, trip};
+use crate::trip_tests::{Asked, Came, EIGHT, GET, GET_HEAD, HELLO, Verb, out_head, trip};
 use gw_body::Rewindable;
 use gw_pool::Solo;
-use gw_stream::{Loss, Pull};
+use gw_retry::Failure;
+use gw_stream::{Loss, Pull, Timer};
 use gw_wire::Wire;
 use std::alloc::{AllocError, Global};
 use std::test::Fail;
@@ -139,6 +140,110 @@ fn ends_so(alloc: Global, row: &Ending) -> Result<bool, AllocError> {
 fn kept_or_closed(rt: HostRuntime) -> Result<(), Fail> {
     for (at, row) in ENDINGS.iter().enumerate() {
         assert!(rt; ends_so(rt.alloc(), row)?, "row {at}");
+    }
+    Ok(())
+}
+
+/// A trip that may be stopped: how many milliseconds behind its beginning its deadline is, from how many acts on the clock
+/// is so much later, and whether it was cancelled; what comes of it, how many links are dialed, and what link 7 takes.
+struct Stopped {
+    deadline: u16,
+    from: u64,
+    later: u16,
+    cancelled: bool,
+    came: Came,
+    dials: usize,
+    text: &'static [u8],
+}
+
+const LATE: Came = Came::Failed(Failure::Deadline);
+
+const STOPPED: [Stopped; 5] = [
+    Stopped {
+        deadline: 500,
+        from: 1,
+        later: 0,
+        cancelled: true,
+        came: Came::Failed(Failure::Cancelled),
+        dials: 0,
+        text: b"",
+    },
+    Stopped {
+        deadline: 0,
+        from: 1,
+        later: 0,
+        cancelled: false,
+        came: LATE,
+        dials: 0,
+        text: b"",
+    },
+    Stopped {
+        deadline: 500,
+        from: 1,
+        later: 500,
+        cancelled: false,
+        came: LATE,
+        dials: 1,
+        text: b"",
+    },
+    Stopped {
+        deadline: 500,
+        from: 2,
+        later: 500,
+        cancelled: false,
+        came: LATE,
+        dials: 1,
+        text: GET_HEAD,
+    },
+    Stopped {
+        deadline: 500,
+        from: 1,
+        later: 499,
+        cancelled: false,
+        came: Came::Reply(200),
+        dials: 1,
+        text: GET_HEAD,
+    },
+];
+
+// Whether a trip stops as its row says.
+fn stops_so(alloc: Global, row: &Stopped) -> Result<bool, AllocError> {
+    let seven = Line {
+        number: 7,
+        sends: &[HELLO],
+        fails: false,
+        takes: &[],
+    };
+    let later = NOW + row.later as u64;
+    let mut wire = wire(alloc, &seven, &EIGHT, row.from, later)?;
+    let mut pool = Solo::open(alloc, limits(32))?;
+    let mut buffers = Buffers::new(alloc)?;
+    let out = out_head(alloc, &GET, b"")?;
+    let body = Rewindable::new(Vec::new(alloc));
+    let mut guard = Timer::new(Some(NOW + row.deadline as u64));
+    guard.cancelled = row.cancelled;
+    let (came, _) = trip(
+        &mut wire,
+        &mut pool,
+        &mut guard,
+        &mut buffers,
+        &out,
+        &body,
+        false,
+    );
+    Ok(
+        came == row.came
+            && dials(wire.acts()) == row.dials
+            && is_closed(wire.acts(), 7) == (row.dials == 1)
+            && taken(alloc, wire.acts(), 7)?.as_slice() == row.text,
+    )
+}
+
+/// A trip that was cancelled, or whose deadline has come, goes no further than it is; its connection is closed.
+#[test]
+fn late_and_cancelled(rt: HostRuntime) -> Result<(), Fail> {
+    for (at, row) in STOPPED.iter().enumerate() {
+        assert!(rt; stops_so(rt.alloc(), row)?, "row {at}");
     }
     Ok(())
 }

@@ -10,7 +10,7 @@ use crate::attempts::{Attempted, Order, round_trip};
 use crate::buffers::Buffers;
 use crate::ending::{finish, pull};
 use crate::replying::End;
-use crate::test_links::{Line, dials, is_closed, taken, wire, writes};
+use crate::test_links::{Line, taken, wire, writes};
 use crate::tests::{BACKEND, NOW, half_a_minute, limits};
 use gw_body::Rewindable;
 use gw_head::Framing;
@@ -24,6 +24,8 @@ use std::alloc::{AllocError, Global};
 use std::test::Fail;
 
 pub(crate) const GET_HEAD: &[u8] = b"GET / HTTP/1.1\r\n\r\n";
+
+const TWO_GETS: &[u8] = b"GET / HTTP/1.1\r\n\r\nGET / HTTP/1.1\r\n\r\n";
 
 pub(crate) const POST_HEAD: &[u8] = b"POST / HTTP/1.1\r\nContent-Length: 2\r\n\r\n";
 
@@ -198,10 +200,9 @@ pub(crate) fn trip(
     }
 }
 
-/// A reply is pulled to its end, and its connection serves the next trip.
-#[test]
-fn one_get(rt: HostRuntime) -> Result<(), Fail> {
-    let alloc = rt.alloc();
+// Makes two trips over links of which the first one answers twice: what came of them, what the first reply gave, and the
+// wire.
+fn get_twice(alloc: Global) -> Result<([Came; 2], Pulls, MemWire), AllocError> {
     let seven = Line {
         number: 7,
         sends: &[HELLO, EMPTY],
@@ -213,141 +214,52 @@ fn one_get(rt: HostRuntime) -> Result<(), Fail> {
     let mut buffers = Buffers::new(alloc)?;
     let out = out_head(alloc, &GET, b"")?;
     let body = Rewindable::new(Vec::new(alloc));
-    let (came, pulls) = trip(
-        &mut wire,
-        &mut pool,
-        &mut half_a_minute(),
-        &mut buffers,
-        &out,
-        &body,
-        true,
-    );
-    assert_eq!(rt; came, Came::Reply(200));
-    assert_eq!(rt; pulls.steps, [Pull::Data(5), Pull::Done, Pull::Done]);
-    assert!(rt; pulls.data.starts_with(b"hello"));
-    assert!(rt;
-        matches!(
-            wire.acts(),
-            [Act::Dialed(0, _, 7), Act::Wrote(7, _), Act::Read(7, _)]
-        )
-    );
-    assert!(rt; taken(alloc, wire.acts(), 7)?.as_slice() == GET_HEAD);
-    let (came, _) = trip(
-        &mut wire,
-        &mut pool,
-        &mut half_a_minute(),
-        &mut buffers,
-        &out,
-        &body,
-        true,
-    );
-    assert_eq!(rt; came, Came::Reply(200));
-    assert_eq!(rt; dials(wire.acts()), 1);
-    assert!(rt; !is_closed(wire.acts(), 7));
-    Ok(())
-}
-
-/// A trip that may be stopped: how many milliseconds behind its beginning its deadline is, from how many acts on the clock
-/// is so much later, and whether it was cancelled; what comes of it, how many links are dialed, and what link 7 takes.
-struct Stopped {
-    deadline: u16,
-    from: u64,
-    later: u16,
-    cancelled: bool,
-    came: Came,
-    dials: usize,
-    text: &'static [u8],
-}
-
-const LATE: Came = Came::Failed(Failure::Deadline);
-
-const STOPPED: [Stopped; 5] = [
-    Stopped {
-        deadline: 500,
-        from: 1,
-        later: 0,
-        cancelled: true,
-        came: Came::Failed(Failure::Cancelled),
-        dials: 0,
-        text: b"",
-    },
-    Stopped {
-        deadline: 0,
-        from: 1,
-        later: 0,
-        cancelled: false,
-        came: LATE,
-        dials: 0,
-        text: b"",
-    },
-    Stopped {
-        deadline: 500,
-        from: 1,
-        later: 500,
-        cancelled: false,
-        came: LATE,
-        dials: 1,
-        text: b"",
-    },
-    Stopped {
-        deadline: 500,
-        from: 2,
-        later: 500,
-        cancelled: false,
-        came: LATE,
-        dials: 1,
-        text: GET_HEAD,
-    },
-    Stopped {
-        deadline: 500,
-        from: 1,
-        later: 499,
-        cancelled: false,
-        came: Came::Reply(200),
-        dials: 1,
-        text: GET_HEAD,
-    },
-];
-
-// Whether a trip stops as its row says.
-fn stops_so(alloc: Global, row: &Stopped) -> Result<bool, AllocError> {
-    let seven = Line {
-        number: 7,
-        sends: &[HELLO],
-        fails: false,
-        takes: &[],
-    };
-    let later = NOW + row.later as u64;
-    let mut wire = wire(alloc, &seven, &EIGHT, row.from, later)?;
-    let mut pool = Solo::open(alloc, limits(32))?;
-    let mut buffers = Buffers::new(alloc)?;
-    let out = out_head(alloc, &GET, b"")?;
-    let body = Rewindable::new(Vec::new(alloc));
-    let mut guard = Timer::new(Some(NOW + row.deadline as u64));
-    guard.cancelled = row.cancelled;
-    let (came, _) = trip(
+    let mut guard = half_a_minute();
+    let (first, pulls) = trip(
         &mut wire,
         &mut pool,
         &mut guard,
         &mut buffers,
         &out,
         &body,
-        false,
+        true,
     );
-    Ok(
-        came == row.came
-            && dials(wire.acts()) == row.dials
-            && is_closed(wire.acts(), 7) == (row.dials == 1)
-            && taken(alloc, wire.acts(), 7)?.as_slice() == row.text,
-    )
+    let mut guard = half_a_minute();
+    let (second, _) = trip(
+        &mut wire,
+        &mut pool,
+        &mut guard,
+        &mut buffers,
+        &out,
+        &body,
+        true,
+    );
+    Ok(([first, second], pulls, wire))
 }
 
-/// A trip that was cancelled, or whose deadline has come, goes no further than it is; its connection is closed.
-#[test]
-fn late_and_cancelled(rt: HostRuntime) -> Result<(), Fail> {
-    for (at, row) in STOPPED.iter().enumerate() {
-        assert!(rt; stops_so(rt.alloc(), row)?, "row {at}");
+fn answers_twice(acts: &[Act]) -> bool {
+    match acts {
+        [
+            Act::Dialed(0, _, 7),
+            Act::Wrote(7, _),
+            Act::Read(7, _),
+            Act::Wrote(7, _),
+            Act::Read(7, _),
+        ] => true,
+        _ => false,
     }
+}
+
+/// A reply is pulled to its end, and its connection serves the next trip.
+#[test]
+fn one_get(rt: HostRuntime) -> Result<(), Fail> {
+    let alloc = rt.alloc();
+    let (came, pulls, wire) = get_twice(alloc)?;
+    assert!(rt; came == [Came::Reply(200); 2]);
+    assert!(rt; pulls.steps == [Pull::Data(5), Pull::Done, Pull::Done]);
+    assert!(rt; pulls.data.starts_with(b"hello"));
+    assert!(rt; answers_twice(wire.acts()));
+    assert!(rt; taken(alloc, wire.acts(), 7)?.as_slice() == TWO_GETS);
     Ok(())
 }
 
