@@ -1,14 +1,13 @@
 -- The laws of exchanges.
-use Rattle.std.proofs.Common.{ℕ, ◌≡◌, true, false, List, [], ◌∷◌, ◌++◌, All, Option, refl, ap, sym, subst, ◌∙◌, append-nil, append_assoc, inl, inr, ne_eqb}
+use Rattle.std.proofs.Common.{ℕ, ◌≡◌, true, false, List, [], ◌∷◌, ◌++◌, All, refl, ap, sym, ◌∙◌, append-nil, inl, inr, ne_eqb}
 use Rattle.std.proofs.lemmas.Grind.{flat_map-append}
 use Rattle.std.proofs.lemmas.List.Elements.{All-head, All-tail}
 use Rattle.gw_wire.specs.declared.values.Act.{Act}
-use Rattle.gw_wire.specs.declared.values.Act.TheVariants.{Read, ReadFailed, Wrote, WriteFailed}
+use Rattle.gw_wire.specs.declared.values.Act.TheVariants.{ReadFailed, Wrote}
 use Rattle.gw_wire.specs.declared.values.Act.TheVariants.{End as LinkEnd}
 use Rattle.gw_wire.specs.Acts.{bytes_read, bytes_written, read_of, written_of}
 use Rattle.gw_wire.specs.Link.{LinkView}
 use Rattle.gw_wire.specs.Shuffle.{HasSide, OtherLinksDiffer, Ours, SecondSidesAreFound, SidesAreFound}
-use Rattle.gw_wire.specs.Stretch.{Acts, Then}
 use Rattle.gw_body.specs.declared.place.Place.{Place}
 use Rattle.gw_retry.specs.declared.Failure.{Failure}
 use Rattle.gw_retry.specs.declared.Failure.TheVariants as failure
@@ -27,10 +26,10 @@ use Rattle.gw_transport.specs.declared.attempts.Tried.TheVariants as tried
 use Rattle.gw_transport.specs.declared.replying.Begun.{Begun}
 use Rattle.gw_transport.specs.declared.replying.End.{End}
 use Rattle.gw_transport.specs.declared.replying.End.TheVariants as end
-use Rattle.gw_transport.specs.ExchangeLaws.{ExchangesAreWhole, IsFrontOfRequest, IsReadOfReply, RepliesAreRead, RequestsAreWritten, UploadsAreApart}
+use Rattle.gw_transport.specs.ExchangeLaws.{ExchangesAreWhole, IsFrontOfRequest, RepliesAreRead, RequestsAreWritten, UploadsAreApart}
 use Rattle.gw_transport.specs.Replying.{HearsReply, IsOpenReply, LosesReply, Replies}
-use Rattle.gw_transport.specs.Sending.{Exchanges, Unsent}
-use Rattle.gw_transport.specs.Uploading.{UploadView, Uploads, continue_of}
+use Rattle.gw_transport.specs.Sending.{Unsent}
+use Rattle.gw_transport.specs.Uploading.{continue_of}
 use Rattle.gw_transport.proofs.StretchLemmas.{stretch_part, stretch_then, stretch_waited}
 
 -- writes read nothing, and reads write nothing

@@ -21,10 +21,20 @@ pub use uploading::Upload;
 pub use watch::{Watch, first_deadline_is_least};
 
 #[cfg(test)]
+mod attempt_tests;
+#[cfg(test)]
+mod ending_tests;
+#[cfg(test)]
 mod idle_tests;
 #[cfg(test)]
 mod lease_tests;
 #[cfg(test)]
+mod test_links;
+#[cfg(test)]
 mod tests;
+#[cfg(test)]
+mod trip_tests;
+#[cfg(test)]
+mod upload_tests;
 #[cfg(test)]
 mod watch_tests;
