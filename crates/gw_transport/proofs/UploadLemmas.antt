@@ -35,7 +35,7 @@ use Rattle.gw_transport.specs.declared.uploading.Upload.{Upload}
 use Rattle.gw_transport.specs.Attempts.{AttemptStep, TriedCause}
 use Rattle.gw_transport.specs.Leasing.{Lateness}
 use Rattle.gw_transport.specs.Replying.{Replies, ReplyStep, tried_bill}
-use Rattle.gw_transport.specs.Uploading.{BreaksBy, ClientCause, ExchangesUpload, IsSameUpload, SilentBy, UploadView, Uploads, break_lateness, client_stopped, continue_of, is_chunked, upload_view}
+use Rattle.gw_transport.specs.Uploading.{BreaksBy, ClientCause, ExchangesUpload, IsSameUpload, IsUnread, SilentBy, UploadView, Uploads, break_lateness, client_stopped, continue_of, is_chunked, upload_view}
 use Rattle.gw_transport.proofs.SendingLemmas.{failed_cause, stopped_cause, tried_from}
 
 -- what an attempt's waits were is what it did
@@ -55,11 +55,11 @@ same_upload out k j up now asked asked_now answer answer_now same is = record {
 
 -- ---- before the body
 
-pub no_room : (wire : WireView) (g : GuardView) (from to : UploadView) (k : ℕ) → wire.aged ≡ false → g.last ≤ wire.moment → IsSameUpload from to
-    → AttemptStep {R = Begun} wire wire g g (ExchangesUpload from to k (tried.Over end.NoMemory)) (tried.Over end.NoMemory)
-no_room wire g from to k fresh le same = record {
+pub no_room : (wire : WireView) (g : GuardView) (from to : UploadView) (k : ℕ) → wire.aged ≡ false → g.last ≤ wire.moment → IsSameUpload from to → IsUnread from to
+    → to.continued ≡ from.continued → AttemptStep {R = Begun} wire wire g g (ExchangesUpload from to k (tried.Over end.NoMemory)) (tried.Over end.NoMemory)
+no_room wire g from to k fresh le same unread continued = record {
   late = Lateness.ByDeadline;
-  went = went_map (went_nothing wire fresh) (λ x w idle. record { same = same; does = inr (inr (record { is = refl; idle = idle })) });
+  went = went_map (went_nothing wire fresh) (λ x w idle. record { same = same; does = inr (inr (record { is = refl; unread = unread; continued = continued; idle = idle })) });
   watched = watched_same wire g le;
   cause = tt;
 }
@@ -88,7 +88,7 @@ not_told a b cl mid k out up now asked answer said result s is t =
     upload_of a b from to k result Lateness.ByDeadline (sent_bill (Some up.client_ms) said) (SaysFront cl.number (take now.continued (continue_of up.expect)) said) t.waited
     (λ x w o. record {
       same = same_upload out cl.number mid.number up now asked asked answer answer t.link.number is;
-      does = inr (inl (record { said = said; breaks = s; late_by = refl; only = o }));
+      does = inr (inl (record { said = said; breaks = s; unread = record { body = refl; ahead = refl }; late_by = refl; only = o }));
     })
     (silent_cause a b cl mid up.client_ms said result s t.cause)
 

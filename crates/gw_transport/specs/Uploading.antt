@@ -93,6 +93,11 @@ pub record IsSameUpload (from to : UploadView) : Type 0 where
   pub expect : to.expect ≡ from.expect
   pub silence : to.silence ≡ from.silence
 
+-- nothing was taken of the client's body
+pub record IsUnread (from to : UploadView) : Type 0 where
+  pub body : to.body ≡ from.body
+  pub ahead : to.ahead ≡ from.ahead
+
 -- ---- how an upload that doesn't go whole ends the attempt
 
 -- a client that is waited for no longer
@@ -166,18 +171,21 @@ pub record UploadsPart (from to : UploadView) (link : ℕ) (result : Tried Begun
 pub record Continues (from to : UploadView) (result : Tried Begun End) (late : Lateness) (a : At) (w : Work) : Type 0 where
   pub said : Sent
   pub breaks : SilentBy said result
+  pub unread : IsUnread from to
   pub late_by : late ≡ Lateness.ByDeadline
   pub only : Only (sent_bill (Some from.silence) said) (SaysFront from.client (take to.continued (continue_of from.expect)) said) a w
 
 -- the head is longer than there is room for
-pub record HasNoRoom (result : Tried Begun End) (a : At) (w : Work) : Type 0 where
+pub record HasNoRoom (from to : UploadView) (result : Tried Begun End) (a : At) (w : Work) : Type 0 where
   pub is : result ≡ tried.Over end.NoMemory
+  pub unread : IsUnread from to
+  pub continued : to.continued ≡ from.continued
   pub idle : Idle a w
 
 -- what an attempt did
 pub record ExchangesUpload (from to : UploadView) (link : ℕ) (result : Tried Begun End) (late : Lateness) (a : At) (w : Work) : Type 0 where
   pub same : IsSameUpload from to
-  pub does : (UploadsWhole from to link result late a w ⊎ UploadsPart from to link result late a w) ⊎ (Continues from to result late a w ⊎ HasNoRoom result a w)
+  pub does : (UploadsWhole from to link result late a w ⊎ UploadsPart from to link result late a w) ⊎ (Continues from to result late a w ⊎ HasNoRoom from to result a w)
 
 -- when the client's link may be said to have ended or failed
 abbrev pub ClientCause : LinkView → LinkView → Tried Begun End → Type 0

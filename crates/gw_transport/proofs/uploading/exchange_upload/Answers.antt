@@ -8,6 +8,7 @@ use Rattle.gw_transport.proofs.uploading.exchange_upload.Goals as goal
 pub returns-then-not-load-clause-step : goal.returns-then-not-load-clause-step
 returns-then-not-load-clause-step g c =
     no_room _ _ _ _ _ c.requires.fresh c.requires.looked (same_upload c.args.out.now _ _ c.args.upload.now _ c.args.buffers.now.client _ c.args.buffers.now.backend _ refl refl)
+    (record { body = refl; ahead = refl }) refl
 
 pub returns-in-Failed-clause-step : goal.returns-in-Failed-clause-step
 returns-in-Failed-clause-step g c =
