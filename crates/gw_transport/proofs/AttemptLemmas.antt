@@ -50,13 +50,20 @@ pub record Trying {M R E : Type 0} (Does : M → M → ℕ → Tried R E → Lat
   pub rested : IsRested s.after
   pub few : n < 8
 
-pub trying_begins : {M R E : Type 0} (Does : M → M → ℕ → Tried R E → Lateness → At → Work → Type 0) (errand : ErrandView) (old : WireView) (a : Lent) (f : GuardView) (m : M)
+trying_begins : {M R E : Type 0} (Does : M → M → ℕ → Tried R E → Lateness → At → Work → Type 0) (errand : ErrandView) (old : WireView) (a : Lent) (f : GuardView) (m : M)
     → old.aged ≡ false → f.last ≤ old.moment → IsRested a → Trying Does errand (span old old a a) f f m m 0
 trying_begins Does errand old a f m fresh le rested = record {
   did = stretch_map (stretch_part f le (part_nothing old a fresh)) (λ b w s. (refl, s));
   rested = rested;
   few = omega arith;
 }
+
+-- no attempt was made yet behind a trip's first look
+pub trying_looks : {M R E : Type 0} (Does : M → M → ℕ → Tried R E → Lateness → At → Work → Type 0) (errand : ErrandView)
+    (old x y : WireView) (a b : Lent) (f : GuardView) (m : M) (now : ℕ)
+    → f.last ≤ old.moment → NowStep old x now → ExpiredStep (span x y a b) now → Trying Does errand (span y y b b) f f m m 0
+trying_looks Does errand old x y a b f m now le n e =
+    trying_begins Does errand y b f m e.did.doing.fresh (let k = n.later.moment in let l = e.did.doing.wired.later.moment in omega arith) e.rested
 
 -- a connection was come to, and an attempt was made on it
 came : {C M R E : Type 0} (link : C → LinkView) (Does : M → M → ℕ → Tried R E → Lateness → At → Work → Type 0) (errand : ErrandView) (x y z : WireView) (b c : Lent) (g h k : GuardView)
