@@ -1,18 +1,17 @@
 //! Trips whose first link is lost, or answers badly, over a wire in memory.
 
-ghost use Rattle.std.specs.Prelude.{◌≡◌, ◌≤◌, ◌<◌, false};
+ghost use Rattle.std.specs.Prelude.{◌≡◌, ◌<◌, false};
+ghost use Rattle.gw_stream.specs.Outbox.{out_size};
 ghost use Rattle.gw_transport.specs.Leasing.{IsRested};
 
-use crate::buffers::Buffers;
-use crate::test_links::{Line, dials, is_closed, taken, wire};
-use crate::tests::{NOW, half_a_minute, limits};
+use crate::test_links::{Line, Log, shows};
+use crate::test_rig::{Rig, make_rig};
+use crate::tests::half_a_minute;
 use crate::trip_tests::{
-    Asked, Came, EIGHT, EMPTY, GET, GET_HEAD, HELLO, KEYED, POST, POST_TEXT, out_head, trip,
+    Asked, Came, EMPTY, GET, GET_HEAD, HELLO, KEYED, POST, POST_TEXT, ask, get,
 };
-use gw_body::Rewindable;
-use gw_pool::Solo;
 use gw_retry::Failure;
-use gw_wire::{MemConn, MemWire};
+use gw_wire::Wire;
 use std::alloc::{AllocError, Global};
 use std::test::Fail;
 
@@ -28,9 +27,7 @@ struct Row {
     fails: bool,
     takes: &'static [u32],
     came: Came,
-    dials: usize,
-    closed: bool,
-    text: &'static [u8],
+    log: Log,
 }
 
 const CLOSED: [Row; 7] = [
@@ -41,9 +38,12 @@ const CLOSED: [Row; 7] = [
         fails: false,
         takes: &[],
         came: Came::Reply(200),
-        dials: 2,
-        closed: true,
-        text: GET_HEAD,
+        log: Log {
+            dials: 2,
+            closed: true,
+            link: 8,
+            text: GET_HEAD,
+        },
     },
     Row {
         reused: true,
@@ -52,9 +52,12 @@ const CLOSED: [Row; 7] = [
         fails: true,
         takes: &[],
         came: Came::Reply(200),
-        dials: 2,
-        closed: true,
-        text: GET_HEAD,
+        log: Log {
+            dials: 2,
+            closed: true,
+            link: 8,
+            text: GET_HEAD,
+        },
     },
     Row {
         reused: true,
@@ -63,9 +66,12 @@ const CLOSED: [Row; 7] = [
         fails: false,
         takes: &[],
         came: Came::Failed(Failure::ServerClosed),
-        dials: 1,
-        closed: true,
-        text: b"",
+        log: Log {
+            dials: 1,
+            closed: true,
+            link: 8,
+            text: b"",
+        },
     },
     Row {
         reused: true,
@@ -74,9 +80,12 @@ const CLOSED: [Row; 7] = [
         fails: true,
         takes: &[],
         came: Came::Failed(Failure::FirstByte),
-        dials: 1,
-        closed: true,
-        text: b"",
+        log: Log {
+            dials: 1,
+            closed: true,
+            link: 8,
+            text: b"",
+        },
     },
     Row {
         reused: true,
@@ -85,9 +94,12 @@ const CLOSED: [Row; 7] = [
         fails: false,
         takes: &[],
         came: Came::Reply(200),
-        dials: 2,
-        closed: true,
-        text: POST_TEXT,
+        log: Log {
+            dials: 2,
+            closed: true,
+            link: 8,
+            text: POST_TEXT,
+        },
     },
     Row {
         reused: true,
@@ -96,9 +108,12 @@ const CLOSED: [Row; 7] = [
         fails: true,
         takes: &[],
         came: Came::Reply(200),
-        dials: 2,
-        closed: true,
-        text: POST_TEXT,
+        log: Log {
+            dials: 2,
+            closed: true,
+            link: 8,
+            text: POST_TEXT,
+        },
     },
     Row {
         reused: false,
@@ -107,9 +122,12 @@ const CLOSED: [Row; 7] = [
         fails: false,
         takes: &[],
         came: Came::Failed(Failure::ServerClosed),
-        dials: 1,
-        closed: true,
-        text: b"",
+        log: Log {
+            dials: 1,
+            closed: true,
+            link: 8,
+            text: b"",
+        },
     },
 ];
 
@@ -121,9 +139,12 @@ const UNWRITTEN: [Row; 2] = [
         fails: false,
         takes: &[100, 0],
         came: Came::Reply(200),
-        dials: 2,
-        closed: true,
-        text: POST_TEXT,
+        log: Log {
+            dials: 2,
+            closed: true,
+            link: 8,
+            text: POST_TEXT,
+        },
     },
     Row {
         reused: true,
@@ -132,9 +153,12 @@ const UNWRITTEN: [Row; 2] = [
         fails: false,
         takes: &[100, 3, 0],
         came: Came::Failed(Failure::Broken),
-        dials: 1,
-        closed: true,
-        text: b"",
+        log: Log {
+            dials: 1,
+            closed: true,
+            link: 8,
+            text: b"",
+        },
     },
 ];
 
@@ -146,9 +170,12 @@ const INFORMATIONAL: [Row; 4] = [
         fails: false,
         takes: &[],
         came: Came::Reply(200),
-        dials: 1,
-        closed: false,
-        text: b"",
+        log: Log {
+            dials: 1,
+            closed: false,
+            link: 8,
+            text: b"",
+        },
     },
     Row {
         reused: false,
@@ -159,9 +186,12 @@ const INFORMATIONAL: [Row; 4] = [
         fails: false,
         takes: &[],
         came: Came::Failed(Failure::BadResponse),
-        dials: 1,
-        closed: true,
-        text: b"",
+        log: Log {
+            dials: 1,
+            closed: true,
+            link: 8,
+            text: b"",
+        },
     },
     Row {
         reused: true,
@@ -170,9 +200,12 @@ const INFORMATIONAL: [Row; 4] = [
         fails: false,
         takes: &[],
         came: Came::Failed(Failure::BadResponse),
-        dials: 1,
-        closed: true,
-        text: b"",
+        log: Log {
+            dials: 1,
+            closed: true,
+            link: 8,
+            text: b"",
+        },
     },
     Row {
         reused: true,
@@ -181,9 +214,12 @@ const INFORMATIONAL: [Row; 4] = [
         fails: false,
         takes: &[],
         came: Came::Failed(Failure::BadResponse),
-        dials: 1,
-        closed: true,
-        text: b"",
+        log: Log {
+            dials: 1,
+            closed: true,
+            link: 8,
+            text: b"",
+        },
     },
 ];
 
@@ -195,9 +231,12 @@ const BROKEN: [Row; 4] = [
         fails: false,
         takes: &[],
         came: Came::Failed(Failure::Broken),
-        dials: 1,
-        closed: true,
-        text: b"",
+        log: Log {
+            dials: 1,
+            closed: true,
+            link: 8,
+            text: b"",
+        },
     },
     Row {
         reused: true,
@@ -206,9 +245,12 @@ const BROKEN: [Row; 4] = [
         fails: true,
         takes: &[],
         came: Came::Failed(Failure::Broken),
-        dials: 1,
-        closed: true,
-        text: b"",
+        log: Log {
+            dials: 1,
+            closed: true,
+            link: 8,
+            text: b"",
+        },
     },
     Row {
         reused: true,
@@ -217,9 +259,12 @@ const BROKEN: [Row; 4] = [
         fails: false,
         takes: &[],
         came: Came::Failed(Failure::Broken),
-        dials: 1,
-        closed: true,
-        text: b"",
+        log: Log {
+            dials: 1,
+            closed: true,
+            link: 8,
+            text: b"",
+        },
     },
     Row {
         reused: true,
@@ -228,37 +273,34 @@ const BROKEN: [Row; 4] = [
         fails: true,
         takes: &[],
         came: Came::Failed(Failure::Broken),
-        dials: 1,
-        closed: true,
-        text: b"",
+        log: Log {
+            dials: 1,
+            closed: true,
+            link: 8,
+            text: b"",
+        },
     },
 ];
 
-// Lets the link that is dialed first answer a GET, where it is to.
-fn serve_before(
-    alloc: Global,
-    wire: &mut MemWire,
-    pool: &mut Solo<MemConn>,
-    buffers: &mut Buffers,
-    reused: bool,
-) -> Result<(), AllocError>
-    requires fresh { wire.old.aged ≡ false }
-    requires rested { IsRested pool.old }
-    requires within { 0 < pool.old.limits.hosts }
-    requires room { 6 ≤ buffers.old.out.size }
-    ensures fresh { wire.new.aged ≡ false }
-    ensures rested { IsRested pool.new }
-    ensures within { 0 < pool.new.limits.hosts }
-    ensures room { 6 ≤ buffers.new.out.size }
+// Makes a row's trip, behind a GET where it says so.
+fn come(alloc: Global, rig: &mut Rig, row: &Row) -> Result<Came, AllocError>
+    requires fresh { rig.old.wire.aged ≡ false }
+    requires rested { IsRested rig.old.pool }
+    requires within { 0 < rig.old.pool.limits.hosts }
+    requires room { rig.old.buffers.out.size ≡ out_size }
 {
-    if !reused {
-        return Ok(());
+    if row.reused {
+        let _ = get(alloc, rig)?;
     }
-    let out = out_head(alloc, &GET, b"")?;
-    let body = Rewindable::new(Vec::new(alloc));
-    let mut guard = half_a_minute();
-    let _ = trip(wire, pool, &mut guard, buffers, &out, &body, true);
-    Ok(())
+    let went = ask(
+        alloc,
+        rig,
+        &mut half_a_minute(),
+        &row.asked,
+        row.asked.body,
+        true,
+    )?;
+    Ok(went.came)
 }
 
 // Whether a trip comes to what its row says.
@@ -269,28 +311,10 @@ fn is_so(alloc: Global, row: &Row) -> Result<bool, AllocError> {
         fails: row.fails,
         takes: row.takes,
     };
-    let mut wire = wire(alloc, &seven, &EIGHT, 1, NOW)?;
-    let mut pool = Solo::open(alloc, limits(64))?;
-    let mut buffers = Buffers::new(alloc)?;
-    serve_before(alloc, &mut wire, &mut pool, &mut buffers, row.reused)?;
-    let body = Rewindable::new(row.asked.body.to_vec(alloc)?);
-    let out = out_head(alloc, &row.asked, body.again())?;
-    let mut guard = half_a_minute();
-    let (came, _) = trip(
-        &mut wire,
-        &mut pool,
-        &mut guard,
-        &mut buffers,
-        &out,
-        &body,
-        true,
-    );
-    Ok(
-        came == row.came
-            && dials(wire.acts()) == row.dials
-            && is_closed(wire.acts(), 7) == row.closed
-            && taken(alloc, wire.acts(), 8)?.as_slice() == row.text,
-    )
+    let mut rig = make_rig(alloc, &seven)?;
+    let came = come(alloc, &mut rig, row)?;
+    let logged = shows(alloc, rig.wire.acts(), &row.log)?;
+    Ok(logged && came == row.came)
 }
 
 /// A link that answered before, and is lost where a reply's first byte is due: what only reads, or has a key, goes out

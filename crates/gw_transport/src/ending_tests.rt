@@ -1,13 +1,9 @@
 //! How trips end: whether the connections of their replies are kept, and where they are stopped, over a wire in memory.
 
-ghost use Rattle.std.specs.Prelude.{◌≡◌, ◌≤◌, ◌<◌, false};
-
-use crate::buffers::Buffers;
-use crate::test_links::{Line, dials, is_closed, taken, wire};
-use crate::tests::{NOW, half_a_minute, limits};
-use crate::trip_tests::{Asked, Came, EIGHT, GET, GET_HEAD, HELLO, Verb, out_head, trip};
-use gw_body::Rewindable;
-use gw_pool::Solo;
+use crate::test_links::{Line, Log, is_closed, shows};
+use crate::test_rig::{make_rig, make_rig_at};
+use crate::tests::{NOW, half_a_minute};
+use crate::trip_tests::{Asked, Came, GET, GET_HEAD, HELLO, Verb, ask};
 use gw_retry::Failure;
 use gw_stream::{Loss, Pull, Timer};
 use gw_wire::Wire;
@@ -107,31 +103,25 @@ fn ends_so(alloc: Global, row: &Ending) -> Result<bool, AllocError> {
         fails: false,
         takes: &[],
     };
-    let mut wire = wire(alloc, &seven, &EIGHT, 1, NOW)?;
-    let mut pool = Solo::open(alloc, limits(32))?;
-    let mut buffers = Buffers::new(alloc)?;
     let asked = Asked {
         head: GET_HEAD,
         verb: row.verb,
         has_key: false,
         body: b"",
     };
-    let out = out_head(alloc, &asked, b"")?;
-    let body = Rewindable::new(Vec::new(alloc));
-    let mut guard = half_a_minute();
-    let (came, pulls) = trip(
-        &mut wire,
-        &mut pool,
-        &mut guard,
-        &mut buffers,
-        &out,
-        &body,
+    let mut rig = make_rig(alloc, &seven)?;
+    let went = ask(
+        alloc,
+        &mut rig,
+        &mut half_a_minute(),
+        &asked,
+        b"",
         row.pulled,
-    );
+    )?;
     Ok(
-        came == Came::Reply(200)
-            && pulls.steps == row.steps
-            && is_closed(wire.acts(), 7) != row.kept,
+        went.came == Came::Reply(200)
+            && went.pulls.steps == row.steps
+            && is_closed(rig.wire.acts(), 7) != row.kept,
     )
 }
 
@@ -145,15 +135,14 @@ fn kept_or_closed(rt: HostRuntime) -> Result<(), Fail> {
 }
 
 /// A trip that may be stopped: how many milliseconds behind its beginning its deadline is, from how many acts on the clock
-/// is so much later, and whether it was cancelled; what comes of it, how many links are dialed, and what link 7 takes.
+/// is so much later, and whether it was cancelled; what comes of it, and what the wire tells.
 struct Stopped {
     deadline: u16,
     from: u64,
     later: u16,
     cancelled: bool,
     came: Came,
-    dials: usize,
-    text: &'static [u8],
+    log: Log,
 }
 
 const LATE: Came = Came::Failed(Failure::Deadline);
@@ -165,8 +154,12 @@ const STOPPED: [Stopped; 5] = [
         later: 0,
         cancelled: true,
         came: Came::Failed(Failure::Cancelled),
-        dials: 0,
-        text: b"",
+        log: Log {
+            dials: 0,
+            closed: false,
+            link: 7,
+            text: b"",
+        },
     },
     Stopped {
         deadline: 0,
@@ -174,8 +167,12 @@ const STOPPED: [Stopped; 5] = [
         later: 0,
         cancelled: false,
         came: LATE,
-        dials: 0,
-        text: b"",
+        log: Log {
+            dials: 0,
+            closed: false,
+            link: 7,
+            text: b"",
+        },
     },
     Stopped {
         deadline: 500,
@@ -183,8 +180,12 @@ const STOPPED: [Stopped; 5] = [
         later: 500,
         cancelled: false,
         came: LATE,
-        dials: 1,
-        text: b"",
+        log: Log {
+            dials: 1,
+            closed: true,
+            link: 7,
+            text: b"",
+        },
     },
     Stopped {
         deadline: 500,
@@ -192,8 +193,12 @@ const STOPPED: [Stopped; 5] = [
         later: 500,
         cancelled: false,
         came: LATE,
-        dials: 1,
-        text: GET_HEAD,
+        log: Log {
+            dials: 1,
+            closed: true,
+            link: 7,
+            text: GET_HEAD,
+        },
     },
     Stopped {
         deadline: 500,
@@ -201,42 +206,30 @@ const STOPPED: [Stopped; 5] = [
         later: 499,
         cancelled: false,
         came: Came::Reply(200),
-        dials: 1,
-        text: GET_HEAD,
+        log: Log {
+            dials: 1,
+            closed: true,
+            link: 7,
+            text: GET_HEAD,
+        },
     },
 ];
 
+const ONCE: Line = Line {
+    number: 7,
+    sends: &[HELLO],
+    fails: false,
+    takes: &[],
+};
+
 // Whether a trip stops as its row says.
 fn stops_so(alloc: Global, row: &Stopped) -> Result<bool, AllocError> {
-    let seven = Line {
-        number: 7,
-        sends: &[HELLO],
-        fails: false,
-        takes: &[],
-    };
-    let later = NOW + row.later as u64;
-    let mut wire = wire(alloc, &seven, &EIGHT, row.from, later)?;
-    let mut pool = Solo::open(alloc, limits(32))?;
-    let mut buffers = Buffers::new(alloc)?;
-    let out = out_head(alloc, &GET, b"")?;
-    let body = Rewindable::new(Vec::new(alloc));
+    let mut rig = make_rig_at(alloc, &ONCE, row.from, NOW + row.later as u64)?;
     let mut guard = Timer::new(Some(NOW + row.deadline as u64));
     guard.cancelled = row.cancelled;
-    let (came, _) = trip(
-        &mut wire,
-        &mut pool,
-        &mut guard,
-        &mut buffers,
-        &out,
-        &body,
-        false,
-    );
-    Ok(
-        came == row.came
-            && dials(wire.acts()) == row.dials
-            && is_closed(wire.acts(), 7) == (row.dials == 1)
-            && taken(alloc, wire.acts(), 7)?.as_slice() == row.text,
-    )
+    let went = ask(alloc, &mut rig, &mut guard, &GET, b"", false)?;
+    let logged = shows(alloc, rig.wire.acts(), &row.log)?;
+    Ok(logged && went.came == row.came)
 }
 
 /// A trip that was cancelled, or whose deadline has come, goes no further than it is; its connection is closed.

@@ -1,20 +1,16 @@
 //! Attempts on idle connections that all have ended.
 
-ghost use Rattle.std.specs.Prelude.{◌≡◌, ◌<◌, ◌≤◌, ◌+◌, ◌++◌, ◌∷◌, [], ℕ, find, length, true, false};
-ghost use Rattle.gw_transport.specs.Leasing.{IsRested};
+ghost use Rattle.std.specs.Prelude.{◌≡◌, ◌<◌, ◌≤◌, ◌+◌, ◌++◌, ◌∷◌, [], ℕ, find, length, IfOk, true, false};
+ghost use Rattle.gw_stream.specs.Outbox.{out_size};
 ghost use Rattle.gw_pool.specs.Tokens.{change, has_dial, names, ticket_of, with_dial, without_dial, without_ticket};
 
-use crate::attempts::{Attempted, Order, round_trip};
 use crate::buffers::Buffers;
-use crate::leasing::end_lease;
-use crate::tests::{BACKEND, Came, NOW, half_a_minute, limits, trip, wire};
-use gw_body::Rewindable;
-use gw_head::Framing;
+use crate::test_rig::Rig;
+use crate::tests::{BACKEND, Came as Leased, NOW, half_a_minute, limits, trip, wire};
+use crate::trip_tests::{Came, get};
 use gw_pool::{DialToken, Leases, Limits, Put, Solo, Start, Want};
-use gw_proxy::OutHead;
 use gw_retry::Failure;
-use gw_wire::{Act, Bytes, Dial, MemConn, MemWire, Wire};
-use http::Method;
+use gw_wire::{Act, Dial, MemConn, MemWire, Wire};
 use std::alloc::{AllocError, Global};
 use std::process::Abort;
 use std::test::Fail;
@@ -154,41 +150,20 @@ fn shows<R: Abort>(rt: &R, acts: &[Act], deeds: &[Deed]) {
     assert_eq!(rt; at, deeds.len());
 }
 
-// Why a GET over host 0 has no reply.
-fn failure(
-    alloc: Global,
-    wire: &mut MemWire,
-    pool: &mut Solo<MemConn>,
-) -> Result<Option<Failure>, AllocError>
-    requires fresh { wire.old.aged ≡ false }
-    requires rested { IsRested pool.old }
-    requires within { 0 < pool.old.limits.hosts }
-    ensures fresh { wire.new.aged ≡ false }
-    ensures rested { IsRested pool.new }
-    ensures within { 0 < pool.new.limits.hosts }
+// Nine links that end at once, and a pool with room for nine tokens.
+fn nine(alloc: Global) -> Result<Rig, AllocError>
+    ensures fresh { IfOk result (λ rig. rig.wire.aged ≡ false) }
+    ensures running { IfOk result (λ rig. rig.pool.ended ≡ false) }
+    ensures hosts { IfOk result (λ rig. rig.pool.limits.hosts ≡ 1) }
+    ensures per_pass { IfOk result (λ rig. rig.pool.limits.per_pass ≡ 9) }
+    ensures none { IfOk result (λ rig. rig.pool.out ≡ []) }
+    ensures room { IfOk result (λ rig. rig.buffers.out.size ≡ out_size) }
 {
-    let out = OutHead {
-        bytes: Bytes::new(b"GET / HTTP/1.1\r\nHost: h\r\n\r\n".to_vec(alloc)?),
-        method: Method::GET,
-        has_key: false,
-        framing: Framing::None,
-    };
-    let order = Order {
-        out: &out,
-        host: 0,
-        addr: &BACKEND,
-    };
-    let mut buffers = Buffers::new(alloc)?;
-    let none = Rewindable::new(Vec::new(alloc));
-    let mut guard = half_a_minute();
-    match round_trip(wire, pool, &mut guard, &order, &none, &mut buffers) {
-        Attempted::Reply(got, _) => {
-            end_lease(wire, pool, got, false);
-            Ok(None)
-        }
-        Attempted::Failed(why) => Ok(Some(why)),
-        Attempted::Over(_) | Attempted::Unreachable | Attempted::Full => Ok(None),
-    }
+    Ok(Rig {
+        wire: wire(alloc, &[1, 2, 3, 4, 5, 6, 7, 8, 9], NOW)?,
+        pool: Solo::open(alloc, room_for_nine())?,
+        buffers: Buffers::new(alloc)?,
+    })
 }
 
 /// Of nine idle connections that all end at a reply's first byte eight are tried, the newest first, and the one that was
@@ -196,17 +171,14 @@ fn failure(
 #[test]
 fn nine_idle(rt: HostRuntime) -> Result<(), Fail> {
     let alloc = rt.alloc();
-    let mut wire = wire(alloc, &[1, 2, 3, 4, 5, 6, 7, 8, 9], NOW)?;
-    let mut pool = Solo::open(alloc, room_for_nine())?;
-    make_idle(&rt, &mut wire, &mut pool, 0, 9);
+    let mut rig = nine(alloc)?;
+    make_idle(&rt, &mut rig.wire, &mut rig.pool, 0, 9);
+    let went = get(alloc, &mut rig)?;
+    assert_eq!(rt; went.came, Came::Failed(Failure::ServerClosed));
+    shows(&rt, rig.wire.acts(), &CLOSES_ALL_BUT_ONE);
     assert_eq!(rt;
-        failure(alloc, &mut wire, &mut pool)?,
-        Some(Failure::ServerClosed)
-    );
-    shows(&rt, wire.acts(), &CLOSES_ALL_BUT_ONE);
-    assert_eq!(rt;
-        trip(&mut wire, &mut pool, &mut half_a_minute(), true),
-        Came::Over(1, true)
+        trip(&mut rig.wire, &mut rig.pool, &mut half_a_minute(), true),
+        Leased::Over(1, true)
     );
     Ok(())
 }

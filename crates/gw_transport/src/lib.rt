@@ -31,6 +31,10 @@ mod lease_tests;
 #[cfg(test)]
 mod test_links;
 #[cfg(test)]
+mod test_rig;
+#[cfg(test)]
+mod test_uploads;
+#[cfg(test)]
 mod tests;
 #[cfg(test)]
 mod trip_tests;

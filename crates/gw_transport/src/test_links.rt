@@ -78,7 +78,7 @@ pub(crate) fn writes(acts: &[Act], link: u64) -> usize {
 }
 
 /// How many links were dialed.
-pub(crate) fn dials(acts: &[Act]) -> usize {
+fn dials(acts: &[Act]) -> usize {
     acts.iter()
         .filter(|act| matches!(act, Act::Dialed(..)))
         .count()
@@ -86,6 +86,22 @@ pub(crate) fn dials(acts: &[Act]) -> usize {
 
 pub(crate) fn is_closed(acts: &[Act], link: u64) -> bool {
     acts.iter().any(|act| matches!(act, Act::Closed(number) if *number == link))
+}
+
+/// What a wire told of a trip: how many links were dialed, whether link 7 was closed, and what another link, or that one,
+/// took.
+#[derive(Clone, Copy)]
+pub(crate) struct Log {
+    pub(crate) dials: usize,
+    pub(crate) closed: bool,
+    pub(crate) link: u64,
+    pub(crate) text: &'static [u8],
+}
+
+/// Whether that is so.
+pub(crate) fn shows(alloc: Global, acts: &[Act], log: &Log) -> Result<bool, AllocError> {
+    let text = taken(alloc, acts, log.link)?;
+    Ok(text.as_slice() == log.text && dials(acts) == log.dials && is_closed(acts, 7) == log.closed)
 }
 
 /// The size of a chunk, as it is written and as a number.

@@ -81,11 +81,10 @@ pub(crate) fn trip(
     reusable: bool,
 ) -> Came
     requires fresh { wire.old.aged ≡ false }
-    requires looked { guard.old.last ≤ wire.old.moment }
+    requires looked { guard.old.last ≡ 0 }
     requires rested { IsRested pool.old }
     requires within { 0 < pool.old.limits.hosts }
     ensures fresh { wire.new.aged ≡ false }
-    ensures looked { guard.new.last ≤ wire.new.moment }
     ensures rested { IsRested pool.new }
     ensures within { 0 < pool.new.limits.hosts }
 {

@@ -1,29 +1,20 @@
 //! Trips of requests whose bodies are read of the client's link, over a wire in memory.
 
-ghost use Rattle.std.specs.Prelude.{◌≡◌, ◌≤◌, ◌<◌, [], false};
+ghost use Rattle.std.specs.Prelude.{◌≡◌, ◌<◌, [], false};
 ghost use Rattle.gw_stream.specs.Outbox.{out_size};
 ghost use Rattle.gw_transport.specs.Leasing.{IsRested};
 
-use crate::attempts::{Attempted, Order, upload_trip};
-use crate::buffers::Buffers;
-use crate::ending::finish;
 use crate::replying::End;
-use crate::test_links::{Chunk, Line, dials, in_chunks, is_closed, link, taken, wire};
-use crate::tests::{BACKEND, NOW, half_a_minute, limits};
-use crate::trip_tests::{Came, EIGHT, EMPTY};
-use crate::uploading::Upload;
-use gw_body::BodyReader;
+use crate::test_links::{Chunk, Line, Log, in_chunks, link, shows, taken};
+use crate::test_rig::{EIGHT, Rig, make_rig};
+use crate::test_uploads::{HEAD, Went, read_ahead, send};
+use crate::trip_tests::{Came, EMPTY};
 use gw_chunk::ChunkError;
 use gw_head::Framing;
-use gw_pool::Solo;
-use gw_proxy::OutHead;
 use gw_retry::Failure;
-use gw_wire::{Bytes, ConnEvent, MemConn, MemWire, Wire};
-use http::Method;
+use gw_wire::{Bytes, ConnEvent, MemConn, Wire};
 use std::alloc::{AllocError, Global};
 use std::test::Fail;
-
-const HEAD: &[u8] = b"POST / HTTP/1.1\r\n\r\n";
 
 const CONTINUE: &[u8] = b"HTTP/1.1 100 Continue\r\n\r\n";
 
@@ -197,106 +188,58 @@ fn framing_of(chunked: bool, length: u64) -> Framing {
     }
 }
 
-fn out_head(alloc: Global, framing: Framing) -> Result<OutHead, AllocError> {
-    Ok(OutHead {
-        bytes: Bytes::new(HEAD.to_vec(alloc)?),
-        method: Method::POST,
-        has_key: true,
-        framing,
-    })
-}
-
-// Reads what comes first of the client's link, where it is to be ahead.
-fn read_ahead(wire: &mut MemWire, client: &mut MemConn, buffers: &mut Buffers, ahead: bool)
-    requires fresh { wire.old.aged ≡ false }
-    requires used { buffers.old.client.inbox ≡ [] }
-    requires room { buffers.old.out.size ≡ out_size }
-    ensures fresh { wire.new.aged ≡ false }
-    ensures room { buffers.new.out.size ≡ out_size }
+// What comes of a row's trip.
+fn come(alloc: Global, rig: &mut Rig, row: &Row) -> Result<Went, AllocError>
+    requires fresh { rig.old.wire.aged ≡ false }
+    requires rested { IsRested rig.old.pool }
+    requires within { 0 < rig.old.pool.limits.hosts }
+    requires used { rig.old.buffers.client.inbox ≡ [] }
+    requires room { rig.old.buffers.out.size ≡ out_size }
 {
-    if !ahead {
-        return;
-    }
-    let inbox = &mut buffers.client.inbox;
-    let _ = inbox.hear(wire, &mut half_a_minute(), client, None);
-    let _ = wire.now();
-}
-
-// Makes a trip to host 0, and finishes its reply.
-fn trip(
-    wire: &mut MemWire,
-    pool: &mut Solo<MemConn>,
-    buffers: &mut Buffers,
-    client: &mut MemConn,
-    out: &OutHead,
-    upload: &mut Upload,
-) -> Came
-    requires fresh { wire.old.aged ≡ false }
-    requires rested { IsRested pool.old }
-    requires within { 0 < pool.old.limits.hosts }
-    requires none { upload.old.continued ≡ 0 }
-    requires room { buffers.old.out.size ≡ out_size }
-{
-    let order = Order {
-        out,
-        host: 0,
-        addr: &BACKEND,
-    };
-    let mut guard = half_a_minute();
-    match upload_trip(wire, pool, &mut guard, &order, client, upload, buffers) {
-        Attempted::Reply(lease, reply) => {
-            finish(wire, pool, lease, &reply, &buffers.backend);
-            Came::Reply(reply.head.code)
-        }
-        Attempted::Failed(why) => Came::Failed(why),
-        Attempted::Over(end) => Came::Over(end),
-        Attempted::Unreachable => Came::Unreachable,
-        Attempted::Full => Came::Full,
-    }
-}
-
-// Whether a trip comes to what its row says, over one link to the backend, which is kept behind a reply alone.
-fn is_so(alloc: Global, row: &Row) -> Result<bool, AllocError> {
     let one = Line {
         number: 1,
         sends: row.sends,
         fails: row.fails,
         takes: row.client_takes,
     };
+    let mut client = link(alloc, &one)?;
+    read_ahead(rig, &mut client, row.ahead);
+    send(
+        alloc,
+        rig,
+        &mut client,
+        framing_of(row.chunked, 5),
+        row.expect,
+    )
+}
+
+// Whether a trip comes to what its row says, over one link to the backend, which is kept behind a reply alone.
+fn is_so(alloc: Global, row: &Row) -> Result<bool, AllocError> {
     let seven = Line {
         number: 7,
         sends: &[EMPTY],
         fails: false,
         takes: row.takes,
     };
-    let mut client = link(alloc, &one)?;
-    let mut wire = wire(alloc, &seven, &EIGHT, 1, NOW)?;
-    let mut pool = Solo::open(alloc, limits(32))?;
-    let mut buffers = Buffers::new(alloc)?;
-    read_ahead(&mut wire, &mut client, &mut buffers, row.ahead);
-    let out = out_head(alloc, framing_of(row.chunked, 5))?;
-    buffers.client.body = BodyReader::new(out.framing);
-    let mut upload = Upload {
-        expect: row.expect,
-        continued: 0,
-        client_ms: 500,
-    };
-    let came = trip(
-        &mut wire,
-        &mut pool,
-        &mut buffers,
-        &mut client,
-        &out,
-        &mut upload,
-    );
+    let mut rig = make_rig(alloc, &seven)?;
+    let went = come(alloc, &mut rig, row)?;
+    let told = taken(alloc, rig.wire.acts(), 1)?;
+    let logged = shows(alloc, rig.wire.acts(), &log_of(row))?;
     Ok(
-        came == row.came
-            && upload.continued == row.continued
-            && dials(wire.acts()) == 1
-            && is_closed(wire.acts(), 7) == (came != Came::Reply(200))
-            && taken(alloc, wire.acts(), 1)?.as_slice() == row.told
-            && taken(alloc, wire.acts(), 7)?.as_slice() == row.text,
+        logged
+            && went.came == row.came
+            && went.continued == row.continued
+            && told.as_slice() == row.told,
     )
+}
+
+fn log_of(row: &Row) -> Log {
+    Log {
+        dials: 1,
+        closed: row.came != Came::Reply(200),
+        link: 7,
+        text: row.text,
+    }
 }
 
 /// A body goes out as it comes, in chunks or as it is.
@@ -356,25 +299,15 @@ fn as_it_is(alloc: Global, head: &[u8]) -> Result<Vec<u8>, AllocError> {
 fn sent(alloc: Global, chunked: bool, body: Vec<u8>) -> Result<Vec<u8>, AllocError> {
     let events = vec![in alloc; ConnEvent::Piece(Bytes::new(body))]?;
     let mut client = MemConn::new(1, events, Vec::new(alloc));
-    let mut wire = wire(alloc, &EIGHT, &EIGHT, 1, NOW)?;
-    let mut pool = Solo::open(alloc, limits(32))?;
-    let mut buffers = Buffers::new(alloc)?;
-    let out = out_head(alloc, framing_of(chunked, 20_000))?;
-    buffers.client.body = BodyReader::new(out.framing);
-    let mut upload = Upload {
-        expect: false,
-        continued: 0,
-        client_ms: 500,
-    };
-    let _ = trip(
-        &mut wire,
-        &mut pool,
-        &mut buffers,
+    let mut rig = make_rig(alloc, &EIGHT)?;
+    let _ = send(
+        alloc,
+        &mut rig,
         &mut client,
-        &out,
-        &mut upload,
-    );
-    taken(alloc, wire.acts(), 8)
+        framing_of(chunked, 20_000),
+        false,
+    )?;
+    taken(alloc, rig.wire.acts(), 8)
 }
 
 /// A large body goes out as it is, or in chunks of at most 8,192 bytes, whatever chunks it comes in.
