@@ -8,3 +8,4 @@ pub mod Sending
 pub mod Uploading
 pub mod Ending
 pub mod ExchangeLaws
+pub mod Closing

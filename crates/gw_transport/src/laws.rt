@@ -1,5 +1,6 @@
 //! Laws of exchanges. Each is a function whose `ensures` is the law.
 
+ghost use Rattle.gw_transport.specs.Closing.{ClosesAddUp, EndsCloseWhatLeaves, LooksCloseWhatLeaves, TripsCloseWhatLeaves, UploadTripsCloseWhatLeaves};
 ghost use Rattle.gw_transport.specs.ExchangeLaws.{ExchangesAreWhole, RepliesAreRead, RequestsAreWritten, UploadsAreApart};
 
 use gw_stream::sides_are_own;
@@ -27,3 +28,13 @@ pub fn uploads_are_apart()
     second_sides_are_found();
     other_links_differ();
 }
+
+/// Each connection that the entries of a trip, or of a lease's end, take out of the pool is closed in that stretch of work
+/// once, in their order, and no other link is. This adds up where stretches follow one another.
+pub fn connections_are_closed_once<C: Link>()
+    ensures trips { TripsCloseWhatLeaves C.link }
+    ensures uploads { UploadTripsCloseWhatLeaves C.link }
+    ensures looks { LooksCloseWhatLeaves }
+    ensures ends { EndsCloseWhatLeaves }
+    ensures sums { ClosesAddUp }
+{}

@@ -14,7 +14,9 @@ mod watch;
 pub use attempts::{Attempted, Order, Tried, Trip, round_trip, upload_trip};
 pub use buffers::{Buffers, NoMemory};
 pub use ending::{finish, pull};
-pub use laws::{exchanges_are_text, exchanges_are_whole, uploads_are_apart};
+pub use laws::{
+    connections_are_closed_once, exchanges_are_text, exchanges_are_whole, uploads_are_apart,
+};
 pub use leasing::{Leased, close_expired, end_lease, lease};
 pub use replying::{Begun, End};
 pub use uploading::Upload;
