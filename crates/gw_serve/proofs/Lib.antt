@@ -1,0 +1,11 @@
+mod BackLemmas
+mod ComesLemmas
+mod DoneLemmas
+mod HearLemmas
+mod PlanLemmas
+mod ReplyLemmas
+mod RestLemmas
+mod SayLemmas
+mod SeatLemmas
+mod TripLemmas
+mod WatchSeats

@@ -1,0 +1,13 @@
+pub mod Ending
+pub mod Hearing
+pub mod ReplySteps
+pub mod Passing
+pub mod Patience
+pub mod Replies
+pub mod Routing
+pub mod Seats
+pub mod Session
+pub mod Stand
+pub mod Steps
+pub mod TripSteps
+pub mod Turn
