@@ -26,3 +26,6 @@ pub use saying::{lost_end, refusal_code, say_fault, say_own};
 pub use service::Service;
 pub use shared::Shared;
 pub use tripping::{make_trip, make_upload};
+
+#[cfg(test)]
+mod tests;
