@@ -31,6 +31,8 @@ pub record TopText : Type 0 where
   pub listen : Addr
   pub workers : ℕ
   pub pool : PoolText
+  pub client_ms : ℕ
+  pub grace_ms : ℕ
   pub journal : ℕ
   pub routes : RouteList
 
@@ -48,6 +50,12 @@ conns_per_host_bounds = record { least = 0; most = 1000; default = 0 }
 
 abbrev pub idle_ms_bounds : Bounds
 idle_ms_bounds = record { least = 0; most = 86400000; default = 90000 }
+
+abbrev pub client_ms_bounds : Bounds
+client_ms_bounds = record { least = 1; most = 86400000; default = 60000 }
+
+abbrev pub grace_ms_bounds : Bounds
+grace_ms_bounds = record { least = 0; most = 86400000; default = 10000 }
 
 abbrev pub journal_bounds : Bounds
 journal_bounds = record { least = 16; most = 4194304; default = 1048576 }
@@ -71,15 +79,25 @@ top_said d = do
   listen ← listen_said d
   workers ← number_said (codes "workers") workers_bounds None d
   pool ← pool_said d
+  client_ms ← number_said (codes "client_ms") client_ms_bounds None d
+  grace_ms ← number_said (codes "grace_ms") grace_ms_bounds None d
   journal ← number_said (codes "journal") journal_bounds None d
   routes ← routes_said d
-  Ok (record { listen = listen; workers = workers; pool = pool; journal = journal; routes = routes })
+  Ok (record { listen = listen; workers = workers; pool = pool; client_ms = client_ms; grace_ms = grace_ms; journal = journal; routes = routes })
 
 abbrev pub pool_text : PoolLimits → PoolText
 pool_text p = record { idle_total = p.idle_total; idle_per_host = p.idle_per_host; conns_per_host = p.conns_per_host; idle_ms = p.idle_ms }
 
 abbrev pub top_text : Top → TopText
-top_text t = record { listen = t.listen; workers = t.workers; pool = pool_text t.pool; journal = t.journal; routes = route_list t.routes }
+top_text t = record {
+  listen = t.listen;
+  workers = t.workers;
+  pool = pool_text t.pool;
+  client_ms = t.client_ms;
+  grace_ms = t.grace_ms;
+  journal = t.journal;
+  routes = route_list t.routes;
+}
 
 unfoldable pub file_said : List ℕ → Said TopText
 file_said bytes = do
@@ -107,6 +125,8 @@ pub record IsTableOf (t : TopText) (table : Table) : Type 0 where
   pub listen : table.listen ≡ t.listen
   pub workers : table.workers ≡ t.workers
   pub limits : table.limits ≡ limits_of t
+  pub client_ms : table.client_ms ≡ t.client_ms
+  pub grace_ms : table.grace_ms ≡ t.grace_ms
   pub hosts : table.hosts.items ≡ t.routes.hosts
   pub routes : table.routes.items ≡ t.routes.routes
   pub patterns : map spelled_of table.mux ≡ t.routes.patterns
@@ -136,6 +156,7 @@ pub record AreNumbered (table : Table) : Type 0 where
   pub few : length table.routes.items ≤ 1024
   pub paired : length table.mux ≡ length table.routes.items
   pub hosts : All (λ r. IsWithin (length table.hosts.items) r.action) table.routes.items
+  pub timeouts : All (λ r. r.timeout ≤ 3600000) table.routes.items
   pub one : table.limits.per_pass ≡ 1
   pub pooled : table.limits.hosts ≡ length table.hosts.items
 

@@ -1,10 +1,10 @@
 -- What is said of a JSON value (RFC 8259), or the first fault: by kinds and ranges.
 -- The checks of each definition stand in their order, and the first that fails is the answer. A fault in a route has
 -- the route's number.
-use Rattle.std.specs.Prelude.{◌≡◌, ℕ, ◌&&◌, if◌then◌else◌, nat_le, List, Option, Some, None, option_and_then, Result, Ok, Err}
+use Rattle.std.specs.Prelude.{◌≡◌, ℕ, Bool, ◌&&◌, if◌then◌else◌, nat_le, List, Option, Some, None, option_and_then, Result, Ok, Err}
 use Rattle.std.specs.Str.{is_utf8}
 use Rattle.serde_json.specs.Data.{Data, Items}
-use Rattle.serde_json.specs.Find.{get, as_str, as_array, as_number, as_u64}
+use Rattle.serde_json.specs.Find.{get, as_bool, as_str, as_array, as_number, as_u64}
 use Rattle.serde_json.specs.Read.{read}
 use Rattle.gw_routes.specs.declared.fault.GCode.{GCode}
 use Rattle.gw_routes.specs.declared.fault.GCode.TheVariants.{NotJson, Missing, WrongKind, OutOfRange}
@@ -77,3 +77,12 @@ number_of bounds route (Some d) = do
 -- the number of that name
 unfoldable pub number_said : List ℕ → Bounds → Option ℕ → Data → Said ℕ
 number_said name bounds route d = number_of bounds route (get name d)
+
+-- true or false, which may be missing
+unfoldable pub flag_of : Bool → Option ℕ → Option Data → Said Bool
+flag_of default route None = Ok default
+flag_of default route (Some d) = or_fault WrongKind route (as_bool d)
+
+-- what is true or false under that name
+unfoldable pub flag_said : List ℕ → Bool → Option ℕ → Data → Said Bool
+flag_said name default route d = flag_of default route (get name d)

@@ -1,5 +1,5 @@
 -- The routes of a file, and the hosts that they lead to.
-use Rattle.std.specs.Prelude.{ℕ, suc, ◌<◌, ◌+◌, Bool, not, ◌==◌, ◌&&◌, if◌then◌else◌, nat_le, nat_lt, List, [], ◌∷◌, ◌++◌, length, take, drop, map, position, Option, Some, None, Result, Ok, Err, codes, bytes_eq}
+use Rattle.std.specs.Prelude.{ℕ, suc, ◌<◌, ◌+◌, Bool, true, false, not, ◌==◌, ◌&&◌, if◌then◌else◌, nat_le, nat_lt, List, [], ◌∷◌, ◌++◌, length, take, drop, map, position, Option, Some, None, Result, Ok, Err, codes, bytes_eq}
 use Rattle.std.specs.Bool.{beq}
 use Rattle.std.specs.List.{list_all}
 use Rattle.serde_json.specs.Data.{Data, Items, no_items, item}
@@ -12,13 +12,16 @@ use Rattle.gw_routes.specs.declared.fault.GCode.TheVariants.{OutOfRange, Pattern
 use Rattle.gw_routes.specs.declared.fault.RouteError.TheVariants.{Bad, NoMemory}
 use Rattle.gw_routes.specs.declared.table.Route.{Route}
 use Rattle.gw_routes.specs.declared.table.Action.{Action}
-use Rattle.gw_routes.specs.declared.table.Action.TheVariants.{Backend}
+use Rattle.gw_routes.specs.declared.table.Action.TheVariants.{Backend, Stop}
+use Rattle.gw_routes.specs.declared.kinds.Bounds.{Bounds}
+use Rattle.gw_routes.specs.declared.route.Target.{Target}
+use Rattle.gw_routes.specs.declared.route.Target.TheVariants.{Address, Gate}
+use Rattle.gw_routes.specs.declared.route.Work.{Work}
 use Rattle.gw_routes.specs.declared.route.Written.{Written}
 use Rattle.gw_routes.specs.declared.placing.Placed.{Placed}
 use Rattle.gw_routes.specs.Addresses.{address_of}
-use Rattle.gw_routes.specs.Kinds.{Said, ◌>>=◌, fault, or_fault, text_said, list_said}
-use Rattle.gw_routes.specs.declared.names.ObjectKind.TheVariants.{BackendRoute}
-use Rattle.gw_routes.specs.Names.{names_said}
+use Rattle.gw_routes.specs.Kinds.{Said, ◌>>=◌, fault, or_fault, flag_said, text_said, list_said, number_said}
+use Rattle.gw_routes.specs.Names.{names_said, route_kind}
 
 -- ---- one route
 
@@ -71,24 +74,61 @@ backend_of text = if bytes_eq (take 7 text) scheme then backend_in (drop 7 text)
 unfoldable pub backend_said : ℕ → List ℕ → Said (Addr × List ℕ)
 backend_said i text = or_fault BadAddress (Some i) (backend_of text)
 
+abbrev pub timeout_bounds : Bounds
+timeout_bounds = record { least = 1; most = 3600000; default = 30000 }
+
+abbrev pub buffer_bounds : Bounds
+buffer_bounds = record { least = 0; most = 1048576; default = 65536 }
+
+-- what a route does with its requests, and in which limits
+pub record WorkText : Type 0 where
+  pub target : Target
+  pub timeout : ℕ
+  pub buffer : ℕ
+
+-- that of a stop route, which names no limits
+abbrev pub stop_work : WorkText
+stop_work = record { target = Gate; timeout = 30000; buffer = 65536 }
+
+-- that of a route with a backend
+unfoldable pub backend_work : ℕ → Data → Said WorkText
+backend_work i d = do
+  backend ← text_said (codes "backend") (Some i) d
+  place ← backend_said i backend
+  timeout ← number_said (codes "timeout") timeout_bounds (Some i) d
+  buffer ← number_said (codes "buffer") buffer_bounds (Some i) d
+  Ok (record { target = Address place.0 place.1; timeout = timeout; buffer = buffer })
+
+unfoldable pub work_by : Bool → ℕ → Data → Said WorkText
+work_by true i d = Ok stop_work
+work_by false i d = backend_work i d
+
+unfoldable pub work_said : ℕ → Data → Said WorkText
+work_said i d = do
+  stop ← flag_said (codes "stop") false (Some i) d
+  work_by stop i d
+
+abbrev pub work_text : Work → WorkText
+work_text w = record { target = w.target; timeout = w.timeout; buffer = w.buffer }
+
 -- a route as it is written
 pub record RouteText : Type 0 where
   pub text : List ℕ
   pub pattern : Spelled
-  pub backend : Addr
-  pub base : List ℕ
+  pub target : Target
+  pub timeout : ℕ
+  pub buffer : ℕ
 
 unfoldable pub route_said : ℕ → Data → Said RouteText
 route_said i d = do
-  known ← names_said BackendRoute (Some i) d
+  known ← names_said (route_kind d) (Some i) d
   text ← text_said (codes "pattern") (Some i) d
   pattern ← route_pattern i text
-  backend ← text_said (codes "backend") (Some i) d
-  place ← backend_said i backend
-  Ok (record { text = text; pattern = pattern; backend = place.0; base = place.1 })
+  work ← work_said i d
+  Ok (record { text = text; pattern = pattern; target = work.target; timeout = work.timeout; buffer = work.buffer })
 
 abbrev pub route_text : Written → RouteText
-route_text w = record { text = w.text; pattern = spelled_of w.pattern; backend = w.backend; base = w.base }
+route_text w = record { text = w.text; pattern = spelled_of w.pattern; target = w.target; timeout = w.timeout; buffer = w.buffer }
 
 -- ---- hosts are numbered as they first appear
 
@@ -122,14 +162,24 @@ pub record RouteList : Type 0 where
 abbrev pub route_list : Placed → RouteList
 route_list p = record { hosts = p.hosts; routes = p.routes.items; patterns = map spelled_of p.patterns.items }
 
-abbrev pub leads_to : List ℕ → ℕ → List ℕ → Route
-leads_to text host base = record { text = text; action = Backend host base }
+-- what a target makes of the hosts: only a backend's address is one of them
+abbrev pub hosts_of : List Addr → Target → List Addr
+hosts_of hosts (Address addr base) = hosts_with hosts addr
+hosts_of hosts Gate = hosts
+
+abbrev pub action_of : List Addr → Target → Action
+action_of hosts (Address addr base) = Backend (host_of hosts addr) base
+action_of hosts Gate = Stop
+
+-- the route that is written so, behind these hosts
+abbrev pub route_of : List Addr → RouteText → Route
+route_of hosts r = record { text = r.text; action = action_of hosts r.target; timeout = r.timeout; buffer = r.buffer }
 
 -- one route more
 unfoldable pub with_route : RouteList → RouteText → RouteList
 with_route before r = record {
-  hosts = hosts_with before.hosts r.backend;
-  routes = before.routes ++ leads_to r.text (host_of before.hosts r.backend) r.base ∷ [];
+  hosts = hosts_of before.hosts r.target;
+  routes = before.routes ++ route_of before.hosts r ∷ [];
   patterns = before.patterns ++ r.pattern ∷ [];
 }
 
@@ -165,3 +215,4 @@ routes_said d = do
 -- the action's host is among so many
 abbrev pub IsWithin : ℕ → Action → Type 0
 IsWithin hosts (Backend host base) = host < hosts
+IsWithin hosts Stop = Unit {0}

@@ -1,7 +1,7 @@
 //! The members of an object, by their kinds and ranges.
 ghost use Rattle.std.specs.Prelude.{◌≡◌};
 ghost use Rattle.serde_json.specs.View.{view, items_view};
-ghost use Rattle.gw_routes.specs.Kinds.{Gives, in_range, json_said, list_said, number_of, number_said, required, text_said};
+ghost use Rattle.gw_routes.specs.Kinds.{Gives, flag_of, flag_said, in_range, json_said, list_said, number_of, number_said, required, text_said};
 
 use crate::fault::{GCode, RouteError};
 use serde_json::{Category, Value};
@@ -101,4 +101,23 @@ fn in_range(n: u64, bounds: Bounds, route: Option<u32>) -> Result<u32, RouteErro
         return Err(RouteError::bad(GCode::OutOfRange, route));
     }
     Ok(n as u32)
+}
+
+/// What is true or false under that name, which may be missing.
+#[tactic(auto, unfolding(crate::specs::Kinds::flag_said, crate::specs::Kinds::flag_of))]
+pub(crate) fn flag_at(
+    value: &Value,
+    name: &str,
+    default: bool,
+    route: Option<u32>,
+) -> Result<bool, RouteError>
+    ensures { Gives (λ flag. flag) result (flag_said name.now default route (view value.now)) }
+{
+    let Some(found) = value.get(name) else {
+        return Ok(default);
+    };
+    match found.as_bool() {
+        Some(flag) => Ok(flag),
+        None => Err(RouteError::bad(GCode::WrongKind, route)),
+    }
 }

@@ -2,7 +2,7 @@
 ghost use Rattle.std.specs.Prelude.{◌≡◌};
 ghost use Rattle.serde_json.specs.View.{view, members_view};
 ghost use Rattle.gw_routes.specs.Kinds.{Gives};
-ghost use Rattle.gw_routes.specs.Names.{is_known, is_pool_name, is_top_name, members_said, names_said};
+ghost use Rattle.gw_routes.specs.Names.{is_backend_name, is_known, is_pool_name, is_stop_name, is_top_name, is_wait_name, members_said, names_said, route_kind};
 
 use crate::fault::{GCode, RouteError};
 use serde_json::{Map, Value};
@@ -14,6 +14,8 @@ pub(crate) enum ObjectKind {
     File,
     /// A route whose requests go to a backend.
     BackendRoute,
+    /// A route whose requests shut the gate.
+    StopRoute,
 }
 
 fn is_pool_name(name: &str) -> bool
@@ -22,14 +24,33 @@ fn is_pool_name(name: &str) -> bool
     name == "idle_total" || name == "idle_per_host" || name == "conns_per_host" || name == "idle_ms"
 }
 
+fn is_wait_name(name: &str) -> bool
+    ensures { result ≡ is_wait_name name.now }
+{
+    name == "client_ms" || name == "grace_ms"
+}
+
 fn is_top_name(name: &str) -> bool
     ensures { result ≡ is_top_name name.now }
 {
     name == "listen"
         || name == "workers"
         || is_pool_name(name)
+        || is_wait_name(name)
         || name == "journal"
         || name == "routes"
+}
+
+fn is_stop_name(name: &str) -> bool
+    ensures { result ≡ is_stop_name name.now }
+{
+    name == "pattern" || name == "stop"
+}
+
+fn is_backend_name(name: &str) -> bool
+    ensures { result ≡ is_backend_name name.now }
+{
+    is_stop_name(name) || name == "backend" || name == "timeout" || name == "buffer"
 }
 
 #[tactic(auto, unfolding(crate::specs::Names::is_known))]
@@ -38,7 +59,8 @@ fn is_known(kind: ObjectKind, name: &str) -> bool
 {
     match kind {
         ObjectKind::File => is_top_name(name),
-        ObjectKind::BackendRoute => name == "pattern" || name == "backend",
+        ObjectKind::BackendRoute => is_backend_name(name),
+        ObjectKind::StopRoute => is_stop_name(name),
     }
 }
 
@@ -71,5 +93,18 @@ pub(crate) fn check_names(
     match value.as_object() {
         Some(members) => check_members(members, kind, route),
         None => Err(RouteError::bad(GCode::WrongKind, route)),
+    }
+}
+
+/// What a route is: one that shuts the gate only where its `stop` is true.
+pub(crate) fn route_kind(value: &Value) -> ObjectKind
+    ensures { result ≡ route_kind (view value.now) }
+{
+    let Some(stop) = value.get("stop") else {
+        return ObjectKind::BackendRoute;
+    };
+    match stop.as_bool() {
+        Some(true) => ObjectKind::StopRoute,
+        _ => ObjectKind::BackendRoute,
     }
 }

@@ -3,12 +3,12 @@ ghost use Rattle.std.specs.Prelude.{◌≡◌, ◌≤◌, ◌<◌, ◌+◌, ◌^
 ghost use Rattle.serde_json.specs.View.{items_view, view};
 ghost use Rattle.gw_mux.specs.Table.{ArePatterns};
 ghost use Rattle.gw_routes.specs.Kinds.{Gives};
-ghost use Rattle.gw_routes.specs.Routes.{items_said, no_routes, route_list, route_text, routes_from, routes_said, with_route};
+ghost use Rattle.gw_routes.specs.Routes.{action_of, hosts_of, items_said, no_routes, route_list, route_text, routes_from, routes_said, with_route};
 
 use crate::fault::{GCode, RouteError};
 use crate::hosts::Hosts;
 use crate::kinds::list_at;
-use crate::route::{Written, read_route};
+use crate::route::{Target, Written, read_route};
 use crate::table::{Action, Route};
 use gw_pattern::Pattern;
 use serde_json::Value;
@@ -20,6 +20,21 @@ pub(crate) struct Placed {
     pub(crate) hosts: Hosts,
     pub(crate) routes: Vec<Route>,
     pub(crate) patterns: Vec<Pattern>,
+}
+
+// The hosts with the target's, and what its route does.
+fn act(hosts: Hosts, target: Target) -> Result<(Hosts, Action), AllocError>
+    requires { length hosts < 2 ^ 32 }
+    ensures hosts { IfOk result (λ r. r.0 ≡ hosts_of hosts target) }
+    ensures action { IfOk result (λ r. r.1 ≡ action_of hosts target) }
+{
+    match target {
+        Target::Address { addr, base } => {
+            let (hosts, host) = hosts.with_address(addr)?;
+            Ok((hosts, Action::Backend { host, base }))
+        }
+        Target::Gate => Ok((hosts, Action::Stop)),
+    }
 }
 
 // The routes before, and one more.
@@ -38,13 +53,16 @@ fn place(before: Placed, written: Written) -> Result<Placed, AllocError>
     let Written {
         text,
         pattern,
-        backend,
-        base,
+        target,
+        timeout,
+        buffer,
     } = written;
-    let (hosts, host) = hosts.with_address(backend)?;
+    let (hosts, action) = act(hosts, target)?;
     routes.push(Route {
         text,
-        action: Action::Backend { host, base },
+        action,
+        timeout: timeout as u64,
+        buffer,
     })?;
     patterns.push(pattern)?;
     Ok(Placed {

@@ -4,24 +4,42 @@ ghost use Rattle.std.specs.List.{list_all};
 ghost use Rattle.serde_json.specs.View.{view};
 ghost use Rattle.gw_pattern.specs.Pattern.{IsWellFormed, spelled_of, wildcard_count};
 ghost use Rattle.gw_routes.specs.Kinds.{Gives};
-ghost use Rattle.gw_routes.specs.Routes.{backend_in, backend_of, backend_said, is_base, is_base_byte, is_slash, route_pattern, route_said, route_text, slash_at};
+ghost use Rattle.gw_routes.specs.Routes.{backend_in, backend_of, backend_said, backend_work, is_base, is_base_byte, is_slash, route_pattern, route_said, route_text, slash_at, stop_work, work_by, work_said, work_text};
 
 use crate::address::address_in;
 use crate::fault::{GCode, RouteError};
-use crate::kinds::text_at;
-use crate::names::{ObjectKind, check_names};
+use crate::kinds::{Bounds, flag_at, number_at, text_at};
+use crate::names::{check_names, route_kind};
 use gw_pattern::{Pattern, PatternError, parse};
 use gw_wire::{Addr, Bytes};
 use serde_json::Value;
 use std::alloc::Global;
 
-/// A route as it is written: the pattern's text, the pattern, and the backend's address and base.
+/// What the requests of a route go to, as it is written.
+#[derive(Drop)]
+pub(crate) enum Target {
+    /// A backend's address, and the base that stands before each path.
+    Address { addr: Addr, base: Bytes },
+    /// The gate, which they shut.
+    Gate,
+}
+
+// What a route does with its requests: their target, the milliseconds of each, and the bytes that are kept of its body.
+#[derive(Drop)]
+struct Work {
+    target: Target,
+    timeout: u32,
+    buffer: u32,
+}
+
+/// A route as it is written: the pattern's text, the pattern, and what it does with its requests.
 #[derive(Drop)]
 pub(crate) struct Written {
     pub(crate) text: Bytes,
     pub(crate) pattern: Pattern,
-    pub(crate) backend: Addr,
-    pub(crate) base: Bytes,
+    pub(crate) target: Target,
+    pub(crate) timeout: u32,
+    pub(crate) buffer: u32,
 }
 
 /// The route of a number.
@@ -31,17 +49,65 @@ pub(crate) fn read_route(alloc: Global, value: &Value, number: u32) -> Result<Wr
     ensures well_formed { IfOk result (λ w. IsWellFormed w.pattern) }
     ensures wildcards { IfOk result (λ w. wildcard_count w.pattern.segs.items ≤ 16) }
 {
-    check_names(value, ObjectKind::BackendRoute, Some(number))?;
+    check_names(value, route_kind(value), Some(number))?;
     let text = text_at(value, "pattern", Some(number))?;
     let pattern = read_pattern(alloc, text, number)?;
-    let (backend, base) = read_backend(text_at(value, "backend", Some(number))?, number)?;
+    let Work {
+        target,
+        timeout,
+        buffer,
+    } = read_work(alloc, value, number)?;
     let text = Bytes::new(Vec::from_slice(alloc, text.as_bytes())?);
-    let base = Bytes::new(Vec::from_slice(alloc, base)?);
     Ok(Written {
         text,
         pattern,
-        backend,
-        base,
+        target,
+        timeout,
+        buffer,
+    })
+}
+
+// An hour at most.
+const TIMEOUT: Bounds = Bounds {
+    least: 1,
+    most: 3_600_000,
+    default: 30_000,
+};
+
+const BUFFER: Bounds = Bounds {
+    least: 0,
+    most: 1_048_576,
+    default: 65_536,
+};
+
+#[tactic(auto, unfolding(crate::specs::Routes::work_said, crate::specs::Routes::work_by))]
+fn read_work(alloc: Global, value: &Value, number: u32) -> Result<Work, RouteError>
+    ensures { Gives work_text result (work_said number (view value.now)) }
+{
+    let stop = flag_at(value, "stop", false, Some(number))?;
+    if stop {
+        Ok(Work {
+            target: Target::Gate,
+            timeout: TIMEOUT.default,
+            buffer: BUFFER.default,
+        })
+    } else {
+        read_backend_work(alloc, value, number)
+    }
+}
+
+#[tactic(auto, unfolding(crate::specs::Routes::backend_work))]
+fn read_backend_work(alloc: Global, value: &Value, number: u32) -> Result<Work, RouteError>
+    ensures { Gives work_text result (backend_work number (view value.now)) }
+{
+    let (addr, base) = read_backend(text_at(value, "backend", Some(number))?, number)?;
+    let timeout = number_at(value, "timeout", TIMEOUT, Some(number))?;
+    let buffer = number_at(value, "buffer", BUFFER, Some(number))?;
+    let base = Bytes::new(Vec::from_slice(alloc, base)?);
+    Ok(Work {
+        target: Target::Address { addr, base },
+        timeout,
+        buffer,
     })
 }
 

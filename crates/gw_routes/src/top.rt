@@ -21,6 +21,8 @@ pub(crate) struct Top {
     pub(crate) listen: Addr,
     pub(crate) workers: u32,
     pub(crate) pool: PoolLimits,
+    pub(crate) client_ms: u32,
+    pub(crate) grace_ms: u32,
     pub(crate) journal: u32,
     pub(crate) routes: Placed,
 }
@@ -36,6 +38,31 @@ fn read_listen(file: &Value) -> Result<Addr, RouteError>
     }
 }
 
+const WORKERS: Bounds = Bounds {
+    least: 1,
+    most: 1,
+    default: 1,
+};
+
+// A day at most.
+const CLIENT_MS: Bounds = Bounds {
+    least: 1,
+    most: 86_400_000,
+    default: 60_000,
+};
+
+const GRACE_MS: Bounds = Bounds {
+    least: 0,
+    most: 86_400_000,
+    default: 10_000,
+};
+
+const JOURNAL: Bounds = Bounds {
+    least: 16,
+    most: 4_194_304,
+    default: 1_048_576,
+};
+
 #[tactic(auto, unfolding(crate::specs::Files::top_said))]
 fn read_top(alloc: Global, file: &Value) -> Result<Top, RouteError>
     ensures top { Gives top_text result (top_said (view file.now)) }
@@ -44,24 +71,18 @@ fn read_top(alloc: Global, file: &Value) -> Result<Top, RouteError>
 {
     check_names(file, ObjectKind::File, None)?;
     let listen = read_listen(file)?;
-    let workers = Bounds {
-        least: 1,
-        most: 1,
-        default: 1,
-    };
-    let workers = number_at(file, "workers", workers, None)?;
+    let workers = number_at(file, "workers", WORKERS, None)?;
     let pool = read_pool(file)?;
-    let journal = Bounds {
-        least: 16,
-        most: 4_194_304,
-        default: 1_048_576,
-    };
-    let journal = number_at(file, "journal", journal, None)?;
+    let client_ms = number_at(file, "client_ms", CLIENT_MS, None)?;
+    let grace_ms = number_at(file, "grace_ms", GRACE_MS, None)?;
+    let journal = number_at(file, "journal", JOURNAL, None)?;
     let routes = read_all(alloc, file)?;
     Ok(Top {
         listen,
         workers,
         pool,
+        client_ms,
+        grace_ms,
         journal,
         routes,
     })
