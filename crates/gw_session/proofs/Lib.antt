@@ -1,15 +1,21 @@
-mod AttemptLemmas
-mod ExchangeLemmas
+mod AnswerLemmas
+mod BackLemmas
+mod ComesLemmas
+mod DoneLemmas
+mod DoorLemmas
+pub mod Facts
 mod GatherLemmas
 mod HearLemmas
-mod InboxLemmas
-mod LeaseLemmas
+mod LastLemmas
+mod PassLemmas
 mod PlanLemmas
-pub mod PoolLemmas
-mod PoolRows
-mod PoolSteps
-pub mod SayLemmas
-pub mod SessionLemmas
+mod ReplyLemmas
+mod RequestLemmas
+mod RestLemmas
+mod SayLemmas
+mod SeatLemmas
+mod SessionLemmas
+mod TripLemmas
+mod TreeLemmas
 mod TurnLemmas
-pub mod WaitLemmas
-mod WayLemmas
+mod WatchSeats

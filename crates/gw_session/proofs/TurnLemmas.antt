@@ -1,272 +1,205 @@
--- A turn, call after call, over plain variables.
-use Rattle.std.proofs.Common.{◌≡◌, ◌+◌, ℕ, Bool, true, false, inl, inr, List, [], Option, Some, codes, refl, sym, subst, arith}
-use Rattle.gw_wire.specs.declared.values.Act.{Act}
-use Rattle.gw_wire.specs.declared.values.Addr.{Addr}
-use Rattle.gw_wire.specs.Causes.{RoseBy}
+-- Turns of a session, one after another, over plain variables.
+use Rattle.std.proofs.Common.{ℕ, ◌≡◌, ◌≤◌, ◌+◌, ◌||◌, Bool, true, false, List, [], ◌∷◌, ◌++◌, length, Option, Some, None, refl, ap, sym, subst, ◌∙◌, arith, inl, inr}
+use Rattle.std.specs.List.{list_any}
+use Rattle.gw_wire.specs.Causes.{Rose}
 use Rattle.gw_wire.specs.Link.{LinkView}
-use Rattle.gw_wire.specs.Stretch.{Told, Then}
 use Rattle.gw_wire.specs.Wire.{WireView}
-use Rattle.gw_wire.proofs.Facts.{Logs-none, Told-map, Told-acts, Told-then, later_same, later_then, link_same, link_then, rises_from, rises_then}
-use Rattle.gw_chunk.specs.declared.error.ChunkError.{ChunkError}
-use Rattle.gw_head.specs.declared.error.HeadError.{HeadError}
-use Rattle.gw_head.specs.declared.request.RequestHead.{RequestHead}
+use Rattle.gw_wire.proofs.Facts.{link_same}
 use Rattle.gw_pool.specs.Lent.{Lent}
-use Rattle.gw_proxy.specs.declared.own.Own.{Own}
-use Rattle.gw_proxy.specs.declared.own.Own.TheVariants.{Plain}
-use Rattle.gw_routes.specs.declared.table.Table.{Table}
+use Rattle.gw_account.specs.Did.{span}
+use Rattle.gw_account.specs.Work.{Work, At, Only, Seq, and, behind, free, nothing}
+use Rattle.gw_account.proofs.Facts.{and_and, and_nothing, behind_behind}
+use Rattle.gw_conn.specs.States.{FirstByte}
+use Rattle.gw_gate.specs.declared.gate.Enter.{Enter}
+use Rattle.gw_gate.specs.declared.gate.Enter.TheVariants as enter
+use Rattle.gw_gate.specs.Calls.{Entered}
+use Rattle.gw_gate.specs.Seat.{SeatName, SeatState, with_view}
+use Rattle.gw_gate.specs.Steps.{entered, has_read}
+use Rattle.gw_stream.specs.declared.waits.Loss.{Loss}
+use Rattle.gw_transport.specs.Leasing.{IsRested}
+use Rattle.gw_transport.specs.Watch.{times_found}
+use Rattle.gw_session.specs.declared.end.Ended.{Ended}
 use Rattle.gw_session.specs.declared.end.Ended.TheVariants as ended
-use Rattle.gw_session.specs.declared.end.Next.{Next}
-use Rattle.gw_session.specs.declared.end.Next.TheVariants.{End}
-use Rattle.gw_session.specs.declared.end.Why.TheVariants.{BadRequest}
-use Rattle.gw_session.specs.declared.exchange.Answer.{Answer}
-use Rattle.gw_session.specs.declared.gather.Gathered.{Gathered}
-use Rattle.gw_session.specs.declared.gather.Gathered.TheVariants as gathered
-use Rattle.gw_session.specs.declared.waits.Loss.TheVariants as loss
-use Rattle.gw_session.specs.declared.waits.Sent.TheVariants as sent
-use Rattle.gw_session.specs.declared.request.Request.{Request}
-use Rattle.gw_session.specs.declared.request.Request.TheVariants as request
-use Rattle.gw_session.specs.Ending.{has_body, why_after}
-use Rattle.gw_session.specs.Exchange.{Exchanges, Traded, sent_text}
-use Rattle.gw_session.specs.Gathering.{HearsBody, gathered_waits}
-use Rattle.gw_session.specs.Hearing.{HearsRequest, request_waits}
-use Rattle.gw_session.specs.Resting.{IsRested}
-use Rattle.gw_pool.specs.Moments.{entry_moments}
-use Rattle.gw_session.specs.Replies.{SaidActs, SaidAnswer, SaidOwn, refusal_code, said_moments}
-use Rattle.gw_session.specs.Routing.{IsOwn, IsRouted}
-use Rattle.gw_session.specs.Turn.{Undecided, Owned, Stopped, Faulty, Passed, Trip, Unheard, Refused, Heard, Deeds, DeedStep, HearsUpload, Invites, IsBody, IsStop, IsUnheard, Turned, TurnStep, continue_text, counted, request_began, stop_next, unheard_next, wants_continue}
-use Rattle.gw_session.specs.Waits.{GoesOn, SentStep, Says, Writes}
-use Rattle.gw_session.proofs.LeaseLemmas.{grown_none}
+use Rattle.gw_session.specs.declared.end.Why.TheVariants as why
+use Rattle.gw_session.specs.declared.session.Next.{Next}
+use Rattle.gw_session.specs.declared.session.Next.TheVariants as next
+use Rattle.gw_session.specs.Ending.{lost_end}
+use Rattle.gw_session.specs.Hearing.{Arrives}
+use Rattle.gw_session.specs.Seats.{Seats, SeatsGo}
+use Rattle.gw_session.specs.Session.{Behind, Serves, begun_in}
+use Rattle.gw_session.specs.Stand.{Goes, Spot, stand}
+use Rattle.gw_session.specs.Turn.{Requested, Turn, Turned, begun_of, stops, turn_next}
+use Rattle.gw_session.specs.TurnSteps.{ArrivedStep, RequestStep, ServesOn, TurnStep, ended_by, next_spot}
+use Rattle.gw_session.proofs.DoneLemmas.{after_idle, done_map, done_then, done_went, rose_behind, rose_before}
+use Rattle.gw_session.proofs.SeatLemmas.{either_which, or_assoc, or_false, goes_from, goes_inside, goes_since, goes_then}
 
-pub goes_then : (a b c : WireView) (f g h : LinkView) → GoesOn a b f g → GoesOn b c g h → GoesOn a c f h
-goes_then a b c f g h p q = record {
-  later = later_then a b c p.later q.later;
-  link = link_then f g h p.link q.link;
-  fresh = q.fresh;
-}
+-- ---- one turn
 
--- a stretch of the same link, called by its first number
-pub told_as : (old new : Option (List Act)) (P : ℕ → List Act → Type 0) (k n : ℕ) → k ≡ n → Told old new (P k) → Told old new (P n)
-told_as old new P k n e t = let Q : ℕ → Type 0 = λ x. Told old new (P x) in subst Q e t
-
--- ---- behind a whole head
-
--- memory was wanting for a decision
-pub undecided_done : (wire : WireView) (a : Lent) (client : LinkView) (peer : List ℕ) (table : Table) (last : Bool) (head : RequestHead) (kept : List ℕ)
-    → IsRested a → wire.aged ≡ false → DeedStep wire wire a a client client peer table last head kept kept (End ended.NoMemory)
-undecided_done wire a client peer table last head kept v fresh = record {
-  goes = record { later = later_same wire; link = link_same client; fresh = fresh };
-  rested = v;
-  deed = Undecided;
+-- no request came
+pub turn_missed : (x y : WireView) (b : Lent) (from to : LinkView) (s t : Seats) (p : Spot) (since count : ℕ) (kept ahead left : List ℕ) (why : Loss)
+    → IsRested b → since ≤ x.moment → count ≡ p.number → ArrivedStep (stand x from s) (stand y to t) p kept ahead (Some why)
+    → TurnStep (span x y b b) (stand x from s) (stand y to t) (next_spot p) since kept left count (next.End (lost_end why))
+turn_missed x y b from to s t p since count kept ahead left why rested le count_is a = record {
+  turn = Turn.Missed why;
+  done = done_went b a.went;
+  count_is = (let c = count_is in omega arith);
+  closed = λ e. refl;
   next_is = refl;
-  fits = tt;
-  grows = grown_none a;
-  faults = omega arith;
-  waited = omega arith;
-  timed = omega arith;
-  log = Told-acts wire.log wire.log [] (Logs-none wire.log);
+  goes = goes_since (stand x from s) (stand y to t) (next_spot p) x.moment since false (Some (lost_end why)) le
+      (goes_from (stand x from s) (stand y to t) p (next_spot p) x.moment false (Some (lost_end why)) refl refl a.goes);
+  rested = rested;
+  cancelled = λ e. absurd (let bad : false ≡ true = e in cc);
 }
 
--- the gateway answered by itself
-pub owned_done : (old new : WireView) (a : Lent) (client to : LinkView) (peer : List ℕ) (table : Table) (last : Bool) (head : RequestHead) (kept : List ℕ) (own : Own) (result : Next)
-    → IsRested a → IsOwn table head own → SaidOwn old new client to own head.method head.old (why_after head last (has_body head.framing)) result
-    → DeedStep old new a a client to peer table last head kept kept result
-owned_done old new a client to peer table last head kept own result v is s = record {
-  goes = s.goes;
-  rested = v;
-  deed = Owned own s.said;
-  next_is = s.next_is;
-  fits = tt;
-  grows = grown_none a;
-  faults = let f = s.goes.later.dial_faults in omega arith;
-  waited = s.waited;
-  timed = s.timed;
-  log = Told-map old.log new.log (SaidActs client.number s.said) (Deeds client.number peer old.groups table last head kept kept (Owned own s.said))
-      (λ l p. (is, s.right, refl, p)) s.log;
-}
-
--- the body wasn't read to an end
-pub stopped_done : (old new : WireView) (a : Lent) (client to : LinkView) (peer : List ℕ) (table : Table) (last : Bool) (head : RequestHead) (kept ahead : List ℕ) (number : ℕ) (upload : Gathered)
-    → IsRested a → IsRouted table head number → IsStop upload → GoesOn old new client to → RoseBy (gathered_waits upload) old.ticks new.ticks
-    → Told old.log new.log (HearsUpload client.number head kept ahead upload) → DeedStep old new a a client to peer table last head kept ahead (stop_next upload)
-stopped_done old new a client to peer table last head kept ahead number upload v routed stop goes waited told = record {
-  goes = goes;
-  rested = v;
-  deed = Stopped number upload;
-  next_is = refl;
-  fits = tt;
-  grows = grown_none a;
-  faults = let f = goes.later.dial_faults in omega arith;
-  waited = waited;
-  timed = goes.later.moment;
-  log = Told-map old.log new.log (HearsUpload client.number head kept ahead upload) (Deeds client.number peer old.groups table last head kept ahead (Stopped number upload))
-      (λ l p. (routed, stop, p)) told;
-}
-
--- the body had a fault
-pub faulty_done : (old mid new : WireView) (a : Lent) (client at to : LinkView) (peer : List ℕ) (table : Table) (last : Bool) (head : RequestHead) (kept ahead : List ℕ) (number : ℕ) (error : ChunkError) (result : Next)
-    → IsRested a → IsRouted table head number → GoesOn old mid client at
-    → Told old.log mid.log (HearsUpload client.number head kept ahead (gathered.Bad error))
-    → SaidOwn mid new at to (Plain 400) head.method head.old (Some BadRequest) result → DeedStep old new a a client to peer table last head kept ahead result
-faulty_done old mid new a client at to peer table last head kept ahead number error result v routed goes told s =
-    let k = client.number in
-    let said = told_as mid.log new.log (λ n. SaidActs n s.said) at.number k goes.link.number s.log in
-    let X = HearsUpload k head kept ahead (gathered.Bad error) in
-    let Y = SaidActs k s.said in
+-- it came behind the shut gate
+pub turn_refused : (x y : WireView) (b : Lent) (from to : LinkView) (r s t : Seats) (p : Spot) (since count : ℕ) (kept ahead left : List ℕ)
+    → IsRested b → since ≤ x.moment → count ≡ p.number → ArrivedStep (stand x from r) (stand y to s) p kept ahead None
+    → SeatsGo s t p.own p.table.grace_ms x.moment y.moment false → t.gate.view.held ≡ s.gate.view.held → t.gate.view.seen_shut ≡ true
+    → TurnStep (span x y b b) (stand x from r) (stand y to t) (next_spot p) since kept left count (next.End (ended.Closed why.Refused))
+turn_refused x y b from to r s t p since count kept ahead left rested le count_is a read held seen =
+    let after : Goes (stand y to s) (stand y to t) p x.moment false (Some (ended.Closed why.Refused)) = record { link = link_same to; seats = read; held = held; cause = seen } in
+    let both : Goes (stand x from r) (stand y to t) p x.moment false (Some (ended.Closed why.Refused)) =
+    goes_then (stand x from r) (stand y to s) (stand y to t) p x.moment false false (Some (ended.Closed why.Refused)) (omega arith) a.goes after in
     record {
-      goes = goes_then old mid new client at to goes s.goes;
-      rested = v;
-      deed = Faulty number error s.said;
-      next_is = s.next_is;
-      fits = tt;
-      grows = grown_none a;
-      faults = let f = goes.later.dial_faults in let g = s.goes.later.dial_faults in omega arith;
-      waited = let f = goes.later.ticks in let g = s.waited in omega arith;
-      timed = rises_from old.moment mid.moment new.moment _ goes.later.moment s.timed;
-      log = Told-map old.log new.log (Then X Y) (Deeds k peer old.groups table last head kept ahead (Faulty number error s.said)) (λ l p. (routed, s.right, p))
-          (Told-then old.log mid.log new.log X Y told said);
+      turn = Turn.Refused;
+      done = done_map (done_went b a.went) (λ z w k. (ahead, k));
+      count_is = (let c = count_is in omega arith);
+      closed = λ e. refl;
+      next_is = refl;
+      goes = goes_since (stand x from r) (stand y to t) (next_spot p) x.moment since false (Some (ended.Closed why.Refused)) le
+          (goes_from (stand x from r) (stand y to t) p (next_spot p) x.moment false (Some (ended.Closed why.Refused)) refl refl both);
+      rested = rested;
+      cancelled = λ e. absurd (let bad : false ≡ true = e in cc);
     }
 
--- the request was passed on and answered
-pub passed_done : (old mid traded new : WireView) (a b : Lent) (client at to : LinkView) (peer : List ℕ) (table : Table) (last : Bool) (head : RequestHead) (kept ahead body : List ℕ) (number : ℕ) (upload : Gathered) (answer : Answer) (result : Next)
-    → IsRouted table head number → IsBody upload body → GoesOn old mid client at
-    → Told old.log mid.log (HearsUpload client.number head kept ahead upload)
-    → Traded mid traded a b table number head peer body answer
-    → SaidAnswer traded new at to answer head (why_after head last false) result → DeedStep old new a b client to peer table last head kept ahead result
-passed_done old mid traded new a b client at to peer table last head kept ahead body number upload answer result routed is goes told t s =
-    let k = client.number in
-    let x = t.exchanged in
-    let trip : Trip = record { target = t.target; body = body; answer = answer; course = x.course } in
-    let said = told_as traded.log new.log (λ n. SaidActs n s.said) at.number k goes.link.number s.log in
-    let text = sent_text head t.target peer body in
-    let X = HearsUpload k head kept ahead upload in
-    let Y : (Addr → List Addr) → List Act → Type 0 = λ groups. Exchanges (groups t.target.backend) t.target.host t.target.backend text head.method x.course answer in
-    let Z = SaidActs k s.said in
-    let P : (Addr → List Addr) → Type 0 = λ groups. Told mid.log traded.log (Y groups) in
-    let exchange = subst P goes.later.groups x.log in
+turned : (p : Spot) (kept ahead left : List ℕ) (turn : Turn) (a : At) (w : Work) → Seq (Only free (Arrives p.client kept ahead)) (Requested p ahead left turn) a w → Turned p kept left turn a w
+turned p kept ahead left (Turn.Missed why) a w k = absurd k.4
+turned p kept ahead left Turn.Refused a w k = absurd k.4
+turned p kept ahead left (Turn.Parted why) a w k = (ahead, k)
+turned p kept ahead left Turn.Unkept a w k = (ahead, k)
+turned p kept ahead left (Turn.Faulty error said) a w k = (ahead, k)
+turned p kept ahead left (Turn.Heard text head deed) a w k = (ahead, k)
+
+begun_one : (p : Spot) (ahead left : List ℕ) (turn : Turn) (a : At) (w : Work) → Requested p ahead left turn a w → begun_of turn ≡ 1
+begun_one p ahead left (Turn.Missed why) a w k = absurd k
+begun_one p ahead left Turn.Refused a w k = absurd k
+begun_one p ahead left (Turn.Parted why) a w k = refl
+begun_one p ahead left Turn.Unkept a w k = refl
+begun_one p ahead left (Turn.Faulty error said) a w k = refl
+begun_one p ahead left (Turn.Heard text head deed) a w k = refl
+
+-- it came, and was served while the seat was inside
+pub turn_served : (x y z : WireView) (b c : Lent) (from mid to : LinkView) (r s t u v : Seats) (p q : Spot) (since count : ℕ) (kept ahead left : List ℕ) (result : Option Ended) (answer : Next)
+    → q ≡ next_spot p → since ≤ x.moment → count ≡ q.number → ended_by answer ≡ result
+    → ArrivedStep (stand x from r) (stand y mid s) p kept ahead None
+    → (s.gate.view.seen_shut ≡ true → ⊥) → SeatsGo s t p.own p.table.grace_ms since y.moment false → RequestStep (span y z b c) (stand y mid t) (stand z to u) q since ahead left result
+    → SeatsGo u v p.own p.table.grace_ms since z.moment false → v.gate.view.held ≡ s.gate.view.held
+    → times_found p.own s.words.view.ended ≡ times_found p.own t.words.view.ended → times_found p.own u.words.view.ended ≡ times_found p.own v.words.view.ended
+    → TurnStep (span x z b c) (stand x from r) (stand z to v) (next_spot p) since kept left count answer
+turn_served x y z b c from mid to r s t u v p q since count kept ahead left result answer spot le count_is ends a unseen enters k leaves held found same =
+    let n : Spot = next_spot p in
+    let step : RequestStep (span y z b c) (stand y mid t) (stand z to u) n since ahead left result = subst (λ (o : Spot). RequestStep (span y z b c) (stand y mid t) (stand z to u) o since ahead left result) spot k in
+    let inner : Goes (stand y mid s) (stand z to v) n since (stops step.turn) result =
+    goes_inside y z mid to s t u v n since (stops step.turn) result step.done.doing.wired.later.moment enters step.goes leaves held in
+    let first : Goes (stand x from r) (stand y mid s) n since false None =
+    goes_since (stand x from r) (stand y mid s) n x.moment since false None le (goes_from (stand x from r) (stand y mid s) p n x.moment false None refl refl a.goes) in
+    let whole : Goes (stand x from r) (stand z to v) n since (stops step.turn) result =
+    goes_then (stand x from r) (stand y mid s) (stand z to v) n since false (stops step.turn) result step.done.doing.wired.later.moment first inner in
     record {
-      goes = record {
-        later = later_then old mid new goes.later (later_then mid traded new x.later s.goes.later);
-        link = link_then client at to goes.link s.goes.link;
-        fresh = s.goes.fresh;
-      };
-      rested = x.rested;
-      deed = Passed number upload trip s.said;
-      next_is = s.next_is;
-      fits = x.makes;
-      grows = x.grows;
-      faults = let e = goes.later.dial_faults in let f = x.faults in let g = s.goes.later.dial_faults in omega arith;
-      waited = let e = goes.later.ticks in let f = x.waited in let g = s.waited in omega arith;
-      timed = rises_from old.moment mid.moment new.moment _ goes.later.moment (rises_then mid.moment traded.moment new.moment (entry_moments x.course.made) (said_moments s.said) x.timed s.timed);
-      log = Told-map old.log new.log (Then X (Then (Y old.groups) Z)) (Deeds k peer old.groups table last head kept ahead (Passed number upload trip s.said))
-          (λ l p. (routed, t.leads, is, s.right, p))
-          (Told-then old.log mid.log new.log X (Then (Y old.groups) Z) told (Told-then mid.log traded.log new.log (Y old.groups) Z exchange said));
+      turn = step.turn;
+      done = done_map (done_then (done_went b a.went) step.done) (λ h w e. turned n kept ahead left step.turn h w e);
+      count_is = (let c = count_is ∙ ap (λ (o : Spot). o.number) spot in let one = begun_one n ahead left step.turn _ _ step.done.does in omega arith);
+      closed = λ e. absurd (unseen (a.goes.seats.seen_shut e));
+      next_is = ends ∙ step.next_is;
+      goes = subst (λ (o : Option Ended). Goes (stand x from r) (stand z to v) n since (stops step.turn) o) (sym ends) whole;
+      rested = step.rested;
+      cancelled = λ e.
+          rose_before (times_found p.own r.words.view.ended) (times_found p.own s.words.view.ended) (times_found p.own v.words.view.ended) a.goes.seats.found
+          (subst (λ m. Rose (times_found p.own s.words.view.ended) m) same (subst (λ m. Rose m (times_found p.own u.words.view.ended)) (sym found) (step.cancelled e)));
     }
 
--- ---- a whole turn
+-- ---- turn after turn
 
-textless : (k : ℕ) (kept text ahead : List ℕ) (heard : Request) (l : List Act) → IsUnheard heard → HearsRequest k kept text ahead heard l → HearsRequest k kept [] ahead heard l
-textless k kept text ahead (request.Head head) l u p = absurd u
-textless k kept text ahead (request.Refused error) l u p = absurd u
-textless k kept text ahead (request.Lost why began) l u p = p
-textless k kept text ahead request.NoMemory l u p = p
+pub any_more : (P : Turn → Bool) (turns : List Turn) (turn : Turn) → list_any P (turns ++ turn ∷ []) ≡ (list_any P turns || P turn)
+any_more P [] turn = or_false (P turn)
+any_more P (t ∷ ts) turn = ap (λ b. P t || b) (any_more P ts turn) ∙ sym (or_assoc (P t) (list_any P ts) (P turn))
 
--- the request was never whole
-pub unheard_done : (old new : WireView) (a : Lent) (client to : LinkView) (peer text : List ℕ) (table : Table) (last : Bool) (kept ahead : List ℕ) (entered now : ℕ) (heard : Request)
-    → IsRested a → IsUnheard heard → now ≡ counted (entered + request_began heard) → GoesOn old new client to → RoseBy (request_waits heard) old.ticks new.ticks
-    → Told old.log new.log (HearsRequest client.number kept text ahead heard)
-    → TurnStep old new a a client to peer table last kept ahead entered now (unheard_next heard)
-unheard_done old new a client to peer text table last kept ahead entered now heard v u n goes waited told = record {
-  goes = goes;
-  rested = v;
-  turn = Unheard heard;
-  next_is = refl;
-  count = n;
-  fits = tt;
-  grows = grown_none a;
-  faults = let f = goes.later.dial_faults in omega arith;
-  waited = waited;
-  timed = goes.later.moment;
-  log = Told-map old.log new.log (HearsRequest client.number kept text ahead heard) (Turned client.number peer old.groups table last kept ahead (Unheard heard))
-      (λ l p. (u, textless client.number kept text ahead heard l u p)) told;
-}
+pub begun_more : (turns : List Turn) (turn : Turn) → begun_in (turns ++ turn ∷ []) ≡ begun_in turns + begun_of turn
+begun_more [] turn = omega arith
+begun_more (t ∷ ts) turn = let more = begun_more ts turn in omega arith
 
--- a head was refused
-pub refused_done : (old mid new : WireView) (a : Lent) (client at to : LinkView) (peer text : List ℕ) (table : Table) (last : Bool) (kept ahead : List ℕ) (entered now : ℕ) (error : HeadError) (result : Next)
-    → IsRested a → now ≡ counted (entered + 1) → GoesOn old mid client at → Told old.log mid.log (HearsRequest client.number kept text ahead (request.Refused error))
-    → SaidOwn mid new at to (Plain (refusal_code error)) (codes "GET") false (Some BadRequest) result
-    → TurnStep old new a a client to peer table last kept ahead entered now result
-refused_done old mid new a client at to peer text table last kept ahead entered now error result v n goes told s =
-    let k = client.number in
-    let said = told_as mid.log new.log (λ m. SaidActs m s.said) at.number k goes.link.number s.log in
-    let X = HearsRequest k kept [] ahead (request.Refused error) in
-    let Y = SaidActs k s.said in
-    record {
-      goes = goes_then old mid new client at to goes s.goes;
-      rested = v;
-      turn = Refused error s.said;
-      next_is = s.next_is;
-      count = n;
-      fits = tt;
-      grows = grown_none a;
-      faults = let f = goes.later.dial_faults in let g = s.goes.later.dial_faults in omega arith;
-      waited = let f = goes.later.ticks in let g = s.waited in omega arith;
-      timed = rises_from old.moment mid.moment new.moment _ goes.later.moment s.timed;
-      log = Told-map old.log new.log (Then X Y) (Turned k peer old.groups table last kept ahead (Refused error s.said)) (λ l p. (s.right, p))
-          (Told-then old.log mid.log new.log X Y told said);
-    }
+-- nothing was done before: the turns begin with what was left
+serves_here : (at : ℕ → Spot) (n m : ℕ) (kept mid left : List ℕ) (turn : Turn) → m ≡ n → mid ≡ kept → (a : At) (w : Work) → Turned (at m) mid left turn a w
+    → Turned (at n) kept left turn a w
+serves_here at n m kept mid left turn is same a w k =
+    subst (λ (i : ℕ). Turned (at i) kept left turn a w) is (subst (λ (l : List ℕ). Turned (at m) l left turn a w) same k)
 
--- a head was heard whole
-pub heard_done : (old mid new : WireView) (a b : Lent) (client at to : LinkView) (peer text : List ℕ) (table : Table) (last : Bool) (kept behind ahead : List ℕ) (entered now : ℕ) (head : RequestHead) (result : Next)
-    → now ≡ counted (entered + 1) → GoesOn old mid client at → Told old.log mid.log (HearsRequest client.number kept text behind (request.Head head))
-    → DeedStep mid new a b at to peer table last head behind ahead result
-    → TurnStep old new a b client to peer table last kept ahead entered now result
-heard_done old mid new a b client at to peer text table last kept behind ahead entered now head result n goes told d =
-    let k = client.number in
-    let D : ℕ → (Addr → List Addr) → List Act → Type 0 = λ m groups. Deeds m peer groups table last head behind ahead d.deed in
-    let P : (Addr → List Addr) → Type 0 = λ groups. Told mid.log new.log (D k groups) in
-    let done = subst P goes.later.groups (told_as mid.log new.log (λ m. D m mid.groups) at.number k goes.link.number d.log) in
-    let X = HearsRequest k kept text behind (request.Head head) in
-    record {
-      goes = goes_then old mid new client at to goes d.goes;
-      rested = d.rested;
-      turn = Heard text head d.deed;
-      next_is = d.next_is;
-      count = n;
-      fits = d.fits;
-      grows = d.grows;
-      faults = let f = goes.later.dial_faults in let g = d.faults in omega arith;
-      waited = let f = goes.later.ticks in let g = d.waited in omega arith;
-      timed = rises_from old.moment mid.moment new.moment _ goes.later.moment d.timed;
-      log = Told-map old.log new.log (Then X (D k old.groups)) (Turned k peer old.groups table last kept ahead (Heard text head d.deed)) (λ l p. (behind, p))
-          (Told-then old.log mid.log new.log X (D k old.groups) told done);
-    }
+-- a turn more, behind which the session goes on
+pub on_more : (at : ℕ → Spot) (n m : ℕ) (kept mid left : List ℕ) (turns : List Turn) (turn : Turn) → m ≡ n + length turns → turn_next (at m) turn ≡ None
+    → (a : At) (w : Work) → Seq (ServesOn at n kept mid turns) (Turned (at m) mid left turn) a w → ServesOn at n kept left (turns ++ turn ∷ []) a w
+on_more at n m kept mid left [] turn is none a w s =
+    let same : m ≡ n = (let e = is in omega arith) in
+    let t = after_idle (Turned (at m) mid left turn) a w (s.0, s.1, s.2, s.3.1, s.4) in
+    (subst (λ (i : ℕ). turn_next (at i) turn ≡ None) same none, (left, (w, nothing, sym (and_nothing w), serves_here at n m kept mid left turn same s.3.0 a w t, (refl, refl))))
+on_more at n m kept mid left (t ∷ ts) turn is none a w s =
+    let among : List ℕ = s.3.1.0 in
+    let seq = s.3.1.1 in
+    let rest : Seq (ServesOn at (n + 1) among mid ts) (Turned (at m) mid left turn) (behind a seq.0) (and seq.1 s.1) =
+    (seq.1, s.1, refl, seq.4, subst (λ (b : At). Turned (at m) mid left turn b s.1) (ap (λ v. behind a v) seq.2 ∙ sym (behind_behind a seq.0 seq.1)) s.4) in
+    let later = on_more at (n + 1) m among mid left ts turn (let e = is in omega arith) none (behind a seq.0) (and seq.1 s.1) rest in
+    (s.3.0, (among, (seq.0, and seq.1 s.1, s.2 ∙ ap (λ v. and v s.1) seq.2 ∙ and_and seq.0 seq.1 s.1, seq.3, later)))
 
--- ---- the body of a request
+-- a turn more, which ends it
+pub ends_more : (at : ℕ → Spot) (n m : ℕ) (kept mid left : List ℕ) (turns : List Turn) (turn : Turn) (e : Ended) → m ≡ n + length turns → turn_next (at m) turn ≡ Some e
+    → (a : At) (w : Work) → Seq (ServesOn at n kept mid turns) (Turned (at m) mid left turn) a w → Serves at n kept e (turns ++ turn ∷ []) a w
+ends_more at n m kept mid left [] turn e is ends a w s =
+    let same : m ≡ n = (let f = is in omega arith) in
+    let t = after_idle (Turned (at m) mid left turn) a w (s.0, s.1, s.2, s.3.1, s.4) in
+    let last : turn_next (at n) turn ≡ Some e = subst (λ (i : ℕ). turn_next (at i) turn ≡ Some e) same ends in (
+      left,
+      (
+        w,
+        nothing,
+        sym (and_nothing w),
+        serves_here at n m kept mid left turn same s.3.0 a w t,
+        subst (λ (o : Option Ended). Behind o (Serves at (n + 1) left e []) e [] (behind a w) nothing) (sym last) (refl, refl, refl),
+      ),
+    )
+ends_more at n m kept mid left (t ∷ ts) turn e is ends a w s =
+    let among : List ℕ = s.3.1.0 in
+    let seq = s.3.1.1 in
+    let rest : Seq (ServesOn at (n + 1) among mid ts) (Turned (at m) mid left turn) (behind a seq.0) (and seq.1 s.1) =
+    (seq.1, s.1, refl, seq.4, subst (λ (b : At). Turned (at m) mid left turn b s.1) (ap (λ v. behind a v) seq.2 ∙ sym (behind_behind a seq.0 seq.1)) s.4) in
+    let later = ends_more at (n + 1) m among mid left ts turn e (let f = is in omega arith) ends (behind a seq.0) (and seq.1 s.1) rest in (
+      among,
+      (
+        seq.0,
+        and seq.1 s.1,
+        s.2 ∙ ap (λ v. and v s.1) seq.2 ∙ and_and seq.0 seq.1 s.1,
+        seq.3,
+        subst (λ (o : Option Ended). Behind o (Serves at (n + 1) among e (ts ++ turn ∷ [])) e (ts ++ turn ∷ []) (behind a seq.0) (and seq.1 s.1)) (sym s.3.0) later,
+      ),
+    )
 
-pub uninvited : (old new : Option (List Act)) (k : ℕ) (head : RequestHead) (kept ahead : List ℕ) (upload : Gathered) → wants_continue head ≡ false
-    → Told old new (HearsBody k head.framing kept ahead upload) → Told old new (HearsUpload k head kept ahead upload)
-uninvited old new k head kept ahead upload e told =
-    let I : Bool → Type 0 = λ b. Invites k b [] in
-    Told-map old new (HearsBody k head.framing kept ahead upload) (HearsUpload k head kept ahead upload) (λ l p. inl ([], l, refl, subst I (sym e) refl, p)) told
+pub cancelled_by : (p q : Bool) (a b c : ℕ) → a ≤ b → b ≤ c → (p ≡ true → Rose a b) → (q ≡ true → Rose b c) → (p || q) ≡ true → Rose a c
+cancelled_by p q a b c le more f g e =
+    elim (either_which p q e) [ inl l ↦ rose_behind a b c more (f l) | inr r ↦ rose_before a b c le (g r) ]
 
-pub invited : (old mid new : WireView) (client at : LinkView) (head : RequestHead) (kept ahead : List ℕ) (upload : Gathered) → wants_continue head ≡ true
-    → SentStep old mid client at continue_text sent.All → Told mid.log new.log (HearsBody at.number head.framing kept ahead upload)
-    → Told old.log new.log (HearsUpload client.number head kept ahead upload)
-invited old mid new client at head kept ahead upload e s told =
-    let k = client.number in
-    let W = Writes k continue_text in
-    let B = HearsBody k head.framing kept ahead upload in
-    let heard = told_as mid.log new.log (λ n. HearsBody n head.framing kept ahead upload) at.number k s.link.number told in
-    Told-map old.log new.log (Then W B) (HearsUpload k head kept ahead upload)
-    (λ l p. let I : Bool → Type 0 = λ b. Invites k b p.0 in inl (p.0, p.1, p.2, subst I (sym e) p.3, p.4))
-    (Told-then old.log mid.log new.log W B s.log heard)
+-- ---- the gate
 
-pub lost_invitation : (old new : WireView) (client to : LinkView) (head : RequestHead) (kept ahead : List ℕ) → wants_continue head ≡ true
-    → SentStep old new client to continue_text sent.Failed → Told old.log new.log (HearsUpload client.number head kept ahead (gathered.Lost loss.Failed))
-lost_invitation old new client to head kept ahead e s =
-    Told-map old.log new.log (Says client.number continue_text sent.Failed) (HearsUpload client.number head kept ahead (gathered.Lost loss.Failed)) (λ l p. inr (e, p)) s.log
+-- an active connection holds what its `enter` was granted
+pub granted : (before now : SeatState) (answer : Enter) (active : SeatName) → Entered before now answer → FirstByte answer (Some active)
+    → (active ≡ before.name) × (now ≡ with_view before (entered now.view.last before.view))
+granted before now (enter.Granted inside) active by first = ((let e : Some active ≡ Some inside = first in cc) ∙ by.1, by.2)
+granted before now enter.Shut active by first = absurd (let bad : Some active ≡ None = first in cc)
 
-pub late_invitation : (old new : WireView) (client to : LinkView) (head : RequestHead) (kept ahead : List ℕ) → wants_continue head ≡ true
-    → SentStep old new client to continue_text sent.Timeout → Told old.log new.log (HearsUpload client.number head kept ahead (gathered.Lost loss.Timeout))
-late_invitation old new client to head kept ahead e s =
-    Told-map old.log new.log (Says client.number continue_text sent.Timeout) (HearsUpload client.number head kept ahead (gathered.Lost loss.Timeout)) (λ l p. inr (e, p)) s.log
+pub refused : (before now : SeatState) (answer : Enter) → Entered before now answer → (answer ≡ enter.Shut → now.view.seen_shut ≡ true) → FirstByte answer None
+    → (now.view.seen_shut ≡ true) × (now ≡ with_view before (record (has_read now.view.last before.view) { held = before.view.held }))
+refused before now (enter.Granted inside) by told first = absurd (let bad : None ≡ Some inside = first in cc)
+refused before now enter.Shut by told first = (told refl, by.1)
+
+-- behind a gate that was seen shut none is granted
+pub not_open : (before : SeatState) (answer : Enter) (active : SeatName) → (before.view.seen_shut ≡ true → answer ≡ enter.Shut) → FirstByte answer (Some active)
+    → before.view.seen_shut ≡ true → ⊥
+not_open before (enter.Granted inside) active never first seen = (let bad : enter.Granted inside ≡ enter.Shut = never seen in cc)
+not_open before enter.Shut active never first seen = (let bad : Some active ≡ None = first in cc)

@@ -7,10 +7,16 @@ pub enum Why {
     End,
     /// Its link failed.
     Failed,
-    /// One wait for it had its millionth tick.
+    /// In one wait for it more than `client_ms` passed, or a million ticks did.
     Timeout,
+    /// A request began behind the shut gate.
+    Refused,
+    /// The gate was seen shut while no request was under way, or as a reply was made.
+    Shut,
     /// A head or a body with a fault was answered.
     BadRequest,
+    /// The backend failed behind the beginning of its reply.
+    Cut,
     /// The client speaks HTTP/1.0.
     Old,
     /// The client asked for it, or the connection had its last request.
@@ -33,15 +39,6 @@ pub enum Ended {
 pub struct Served {
     /// How it ended.
     pub ended: Ended,
-    /// How many requests began; the count stands still at its type's end.
-    pub begun: u64,
-}
-
-/// What follows a request.
-#[derive(Clone, Copy, Debug, PartialEq, Eq)]
-pub enum Next {
-    /// The next request.
-    Again,
-    /// The session's end.
-    End(Ended),
+    /// How many requests began: each at a granted `enter` of the gate.
+    pub begun: u32,
 }

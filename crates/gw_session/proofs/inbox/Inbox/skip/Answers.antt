@@ -1,8 +1,0 @@
-use Rattle.std.proofs.Common.{◌∙◌, ap, drop}
-use Rattle.gw_session.proofs.InboxLemmas.{skipped}
-use Rattle.gw_session.proofs.inbox.Inbox.skip.Goals as goal
-
-pub returns : goal.returns
-returns c =
-    skipped c.self.inside.buf.items c.self.inside.«from» c.self.inside.to c.args.count c.self.invariant (rw c.self.view_is c.requires)
-    ∙ ap (λ l. drop c.args.count l) c.self.view_is
