@@ -1,4 +1,6 @@
+mod HouseLemmas
 mod InspectLemmas
 mod LoadLemmas
 mod RunLemmas
 mod TopLemmas
+mod WorkLemmas

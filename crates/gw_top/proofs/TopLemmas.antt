@@ -1,5 +1,5 @@
 -- The top call: its lines, its refusals, and the run that it reports, over plain variables.
-use Rattle.std.proofs.Common.{◌≡◌, ◌+◌, ℕ, Bool, inl, inr, true, false, List, [], ◌∷◌, ◌++◌, map, Option, Some, None, Ok, Err, refl, ap, sym, ◌∙◌, subst, arith}
+use Rattle.std.proofs.Common.{◌≡◌, ◌≤◌, ℕ, inl, inr, true, false, List, [], ◌∷◌, ◌++◌, map, Option, Some, None, Ok, Err, refl, ap, sym, ◌∙◌, subst, arith}
 use Rattle.std.specs.Prelude.{if◌then◌else◌, String}
 use Rattle.std.specs.declared.alloc.Global.{Global}
 use Rattle.gw_wire.specs.declared.traits.Printed.{Printed}
@@ -9,31 +9,26 @@ use Rattle.gw_wire.specs.declared.values.Act.TheVariants.{Closed}
 use Rattle.gw_wire.specs.declared.values.Addr.{Addr}
 use Rattle.gw_wire.specs.Acts.{Logs}
 use Rattle.gw_wire.specs.Causes.{Rose}
-use Rattle.gw_wire.specs.Stretch.{Told, Then, Acts}
-use Rattle.gw_wire.specs.Wire.{WireView, Later, HasNoActs}
+use Rattle.gw_wire.specs.Stretch.{Told, Acts}
+use Rattle.gw_wire.specs.Moments.{Rises}
+use Rattle.gw_wire.specs.Wire.{WireView, IsFresh, Later, HasNoActs}
 use Rattle.gw_wire.specs.World.{WorldView, WorldLater, PrintStep, IsGiven, ListensNow, ListensAt}
-use Rattle.gw_wire.proofs.Facts.{Logs-none, Logs-then, Told-map, Told-then, rises_from, rises_to}
-use Rattle.gw_head.specs.declared.request.RequestHead.{RequestHead}
+use Rattle.gw_wire.proofs.Facts.{Logs-none, Logs-then, rises_from, rises_to}
 use Rattle.gw_pool.specs.declared.entry.Entry.{Entry}
 use Rattle.gw_pool.specs.declared.limits.Limits.{Limits}
-use Rattle.gw_pool.specs.History.{IsLegal, AreBelow}
+use Rattle.gw_account.specs.Did.{Wired, span}
+use Rattle.gw_account.specs.Work.{At, Work, at_of}
+use Rattle.gw_pool.specs.History.{IsLegal, AreBelow, mine}
+use Rattle.gw_pool.specs.Moments.{entry_moments}
 use Rattle.gw_pool.specs.Idle.{idle_links}
 use Rattle.gw_pool.specs.Lent.{Lent}
 use Rattle.gw_routes.specs.declared.table.Table.{Table}
-use Rattle.gw_session.specs.declared.end.Ended.{Ended}
-use Rattle.gw_session.specs.declared.end.Next.{Next}
-use Rattle.gw_session.specs.declared.end.Next.TheVariants.{Again, End}
-use Rattle.gw_session.specs.Exchange.{Exchanges, sent_text}
-use Rattle.gw_session.specs.Replies.{SaidActs}
-use Rattle.gw_session.specs.Session.{Behind, is_last}
-use Rattle.gw_session.specs.Session.{Serves as ServesTurns}
-use Rattle.gw_session.specs.Turn.{Deed, Undecided, Owned, Stopped, Faulty, Passed, Deeds, HearsUpload, Turn, Unheard, Refused, Heard, Turned, turn_next}
 use Rattle.gw_top.specs.declared.run.Report.{Report}
 use Rattle.gw_top.specs.declared.worker.Worker.{Worker}
 use Rattle.gw_top.specs.Command.{IsServe, name_of}
 use Rattle.gw_top.specs.Lines.{unheard_line, memory_line, accept_line}
 use Rattle.gw_top.specs.Load.{Prints, SaysTable, NoTable, Loads}
-use Rattle.gw_top.specs.Run.{Visit, Visited, Visits, Worked, Run, LogIs, Follow, made_by, last_act}
+use Rattle.gw_top.specs.Run.{IsPaid, LogIs, Run, WorkedAlone, Works, first_at}
 use Rattle.gw_top.specs.Status.{IsEmpty, Refuses, RefusesOr7, Finished, Serves, Ends, Ran}
 
 pub world_then : (a b c : WorldView) → WorldLater a b → WorldLater b c → WorldLater a c
@@ -77,12 +72,6 @@ refuses_with old mid new status front line report l p r = record {
   printed = prints_then old mid new front line l r.later p r.printed;
 }
 
--- a log that began without an act
-pub log_is : (first last : Option (List Act)) (P : List Act → Type 0) → HasNoActs first → Told first last P → LogIs last P
-log_is first None P n t = tt
-log_is None (Some acts) P n t = absurd t.1
-log_is (Some before) (Some acts) P n t = let same : acts ≡ t.0 = t.1 ∙ ap (λ l. l ++ t.0) n in subst P (sym same) t.2
-
 map_map : {A B C : Type 0} (f : B → C) (g : A → B) (l : List A) → map (λ x. f (g x)) l ≡ map f (map g l)
 map_map f g [] = refl
 map_map f g (x ∷ xs) = ap (λ l. f (g x) ∷ l) (map_map f g xs)
@@ -90,92 +79,59 @@ map_map f g (x ∷ xs) = ap (λ l. f (g x) ∷ l) (map_map f g xs)
 pub closes_of : {C : Type 0} (number : C → ℕ) (idle : List C) (links : List ℕ) → map number idle ≡ links → map (λ c. Closed (number c)) idle ≡ map Closed links
 closes_of number idle links e = map_map Closed number idle ∙ ap (λ l. map Closed l) e
 
--- groups that are the same for each address
-deed_along : (groups others : Addr → List Addr) → ((address : Addr) → groups address ≡ others address) → (client : ℕ) (peer : List ℕ) (table : Table) (last : Bool) (head : RequestHead) (kept ahead : List ℕ) (deed : Deed) (l : List Act)
-    → Deeds client peer groups table last head kept ahead deed l → Deeds client peer others table last head kept ahead deed l
-deed_along groups others same client peer table last head kept ahead Undecided l t = t
-deed_along groups others same client peer table last head kept ahead (Owned own said) l t = t
-deed_along groups others same client peer table last head kept ahead (Stopped number upload) l t = t
-deed_along groups others same client peer table last head kept ahead (Faulty number error said) l t = t
-deed_along groups others same client peer table last head kept ahead (Passed number upload trip said) l t =
-    let P : List Addr → Type 0 = λ members.
-    Then (HearsUpload client head kept ahead upload)
-    (Then (Exchanges members trip.target.host trip.target.backend (sent_text head trip.target peer trip.body) head.method trip.course trip.answer)
-    (SaidActs client said)) l in
-    (t.0, t.1, t.2, t.3, subst P (same trip.target.backend) t.4)
+-- a log that began without an act
+logged : (first last : Option (List Act)) (acts : List Act) → HasNoActs first → Logs first last acts → LogIs last acts
+logged first None acts n l = tt
+logged None (Some log) acts n l = absurd l
+logged (Some before) (Some log) acts n l = l ∙ ap (λ x. x ++ acts) n
 
-turn_along : (groups others : Addr → List Addr) → ((address : Addr) → groups address ≡ others address) → (client : ℕ) (peer : List ℕ) (table : Table) (last : Bool) (kept ahead : List ℕ) (turn : Turn) (l : List Act)
-    → Turned client peer groups table last kept ahead turn l → Turned client peer others table last kept ahead turn l
-turn_along groups others same client peer table last kept ahead (Unheard heard) l t = t
-turn_along groups others same client peer table last kept ahead (Refused error said) l t = t
-turn_along groups others same client peer table last kept ahead (Heard text head deed) l t =
-    (t.0, (t.1.0, t.1.1, t.1.2, t.1.3, deed_along groups others same client peer table last head t.0 ahead deed t.1.1 t.1.4))
+closed_by : (old new : Option (List Act)) (acts : List Act) → Told old new (Acts acts) → Logs old new acts
+closed_by old None acts t = tt
+closed_by None (Some new) acts t = absurd t.1
+closed_by (Some old) (Some new) acts t = t.1 ∙ ap (λ x. old ++ x) t.2
 
-behind_along : (next : Next) (P Q : List Act → Type 0) (result : Ended) (turns : List Turn) (l : List Act) → ((m : List Act) → P m → Q m)
-    → Behind next P result turns l → Behind next Q result turns l
-behind_along Again P Q result turns l f b = f l b
-behind_along (End why) P Q result turns l f b = b
-
-serves_along : (groups others : Addr → List Addr) → ((address : Addr) → groups address ≡ others address) → (client : ℕ) (peer : List ℕ) (table : Table) (number : ℕ) (kept : List ℕ) (result : Ended) (turns : List Turn) (l : List Act)
-    → ServesTurns client peer groups table number kept result turns l → ServesTurns client peer others table number kept result turns l
-serves_along groups others same client peer table number kept result [] l s = s
-serves_along groups others same client peer table number kept result (turn ∷ turns) l s = (
-  s.0,
-  (
-    s.1.0,
-    s.1.1,
-    s.1.2,
-    turn_along groups others same client peer table (is_last number) kept s.0 turn s.1.0 s.1.3,
-    behind_along (turn_next (is_last number) turn) (ServesTurns client peer groups table (number + 1) s.0 result turns) (ServesTurns client peer others table (number + 1) s.0 result turns) result turns s.1.1
-        (λ m p. serves_along groups others same client peer table (number + 1) s.0 result turns m p) s.1.4,
-  ),
-)
-
-visited_along : (groups others : Addr → List Addr) → ((address : Addr) → groups address ≡ others address) → (table : Table) (v : Visit) (l : List Act)
-    → Visited groups table v l → Visited others table v l
-visited_along groups others same table v l t =
-    (t.0, t.1, t.2, t.3, (t.4.0, t.4.1, t.4.2, serves_along groups others same v.client v.peer table 1 [] v.ended v.turns t.4.0 t.4.3, t.4.4))
-
-visits_along : (groups others : Addr → List Addr) → ((address : Addr) → groups address ≡ others address) → (table : Table) (visits : List Visit) (l : List Act)
-    → Visits groups table visits l → Visits others table visits l
-visits_along groups others same table [] l t = t
-visits_along groups others same table (v ∷ later) l t = (
-  t.0,
-  t.1,
-  t.2,
-  visited_along groups others same table v t.0 t.3,
-  visits_along groups others same table later t.1 t.4,
-)
+-- a wire that began with nothing pays what was owed since
+paid : (first ended last : WireView) (w : Work) → IsFresh first → Wired first ended w → Later ended last → IsPaid last w.bill
+paid first ended last w fresh wired behind = record {
+  dials = (let x = wired.dials in let y = behind.dial_faults in let z = fresh.dial_faults in omega arith);
+  millis = (let x = wired.millis in let y = behind.moment in let z = fresh.moment in let u = wired.later.first in let v = behind.first in omega arith);
+  ticks = (let x = wired.ticks in let y = behind.ticks in let z = fresh.ticks in omega arith);
+  rests = (let x = wired.rests in let y = behind.rests in let z = fresh.rests in omega arith);
+  said = rises_from last.first first.moment last.moment w.bill.said (let z = fresh.moment in let u = wired.later.first in let v = behind.first in omega arith)
+      (rises_to first.moment ended.moment last.moment w.bill.said wired.said behind.moment);
+}
 
 -- the run behind a report
 pub served : {W : Type 0} (wire : W → WireView) (old mid new : WorldView) (table : Table) (first ended : WireView) (before after : Lent) (journal : List Entry) (closes : List Act)
     (worker : Worker W) (report : Report W)
-    → before.limits ≡ table.limits → before.seen ≡ []
+    → before.limits ≡ table.limits → before.seen ≡ [] → before.mine ≡ [] → before.number ≡ 0
     → WorldLater old mid → Logs old.printed mid.printed [] → ListensNow mid.listened table.listen table.workers → IsGiven old first
-    → Worked first ended before after table worker.entered worker.accept_failed
+    → WorkedAlone (span first ended before after) table worker.entered worker.unkept worker.accept_failed
     → (worker.accept_failed ≡ true → Rose first.accept_faults ended.accept_faults) → worker.number ≡ 0
-    → journal ≡ after.seen → IsLegal after.limits journal → AreBelow after.limits.passes journal
+    → journal ≡ after.seen → journal ≡ after.mine → IsLegal after.limits journal → AreBelow after.limits.passes journal
     → Later ended (wire worker.wire) → Told ended.log (wire worker.wire).log (Acts closes) → closes ≡ map Closed (idle_links after.limits after.seen)
     → Finished mid new table journal worker report → Serves wire old new table report
-served wire old mid new table first ended before after journal closes worker report lim none later quiet heard given w failed number j legal callers behind told links f =
+served wire old mid new table first ended before after journal closes worker report lim none mine_none zero later quiet heard given w failed number j own legal callers behind told links f =
     let last = wire worker.wire in
-    let limits : after.limits ≡ table.limits = w.grows.limits ∙ lim in
-    let all : journal ≡ made_by w.visits = j ∙ w.grows.seen ∙ ap (λ l. l ++ made_by w.visits) none in
-    let V = Visits old.groups table w.visits in
-    let L = Acts (last_act worker.accept_failed ∷ []) in
-    let idle = Acts (map Closed (idle_links table.limits journal)) in
-    let worked = Told-map first.log ended.log (Then (Visits first.groups table w.visits) L) (Then V L)
-    (λ l p. (p.0, p.1, p.2, visits_along first.groups old.groups given.groups table w.visits p.0 p.3, p.4)) w.log in
-    let Q : List Act → Type 0 = λ l. Told ended.log last.log (Acts l) in
+    let work : Work = w.done.work in
+    let wired = w.done.doing.wired in
+    let pooled = w.done.doing.pooled in
+    let limits : after.limits ≡ table.limits = pooled.limits ∙ lim in
+    let all : journal ≡ work.made = j ∙ pooled.seen ∙ ap (λ (l : List Entry). l ++ work.made) none in
+    let alone : journal ≡ mine work.made before.number = own ∙ pooled.mine ∙ ap (λ (l : List Entry). l ++ mine work.made before.number) mine_none in
     let same : closes ≡ map Closed (idle_links table.limits journal) =
-    links ∙ ap (λ l. map Closed (idle_links l after.seen)) limits ∙ ap (λ l. map Closed (idle_links table.limits l)) (sym j) in
-    let R : Limits → Type 0 = λ l. Follow l before.seen w.visits in
-    let S : List Entry → Type 0 = λ l. Follow table.limits l w.visits in
-    let T : Option (Option ListensAt) → Type 0 = λ l. ListensNow l table.listen table.workers in
+    links ∙ ap (λ (l : Limits). map Closed (idle_links l after.seen)) limits ∙ ap (λ (l : List Entry). map Closed (idle_links table.limits l)) (sym j) in
+    let shut : Logs ended.log last.log (map Closed (idle_links table.limits journal)) =
+    subst (λ (l : List Act). Logs ended.log last.log l) same (closed_by ended.log last.log closes told) in
+    let start : last.first ≤ first.moment = (let x = given.fresh.moment in let y = wired.later.first in let z = behind.first in omega arith) in
+    let at : at_of first before ≡ first_at table first.groups = λ i. record { limits = lim i; caller = zero i; groups = first.groups; history = none i } in
+    let groups : last.groups ≡ first.groups = behind.groups ∙ wired.later.groups in
+    let does : Works table w.visits w.last (first_at table last.groups) work =
+    subst (λ (g : Addr → List Addr). Works table w.visits w.last (first_at table g) work) (sym groups) (subst (λ (a : At). Works table w.visits w.last a work) at w.done.does) in
     record {
       later = world_then old mid new later f.later;
       table_is = f.table_is;
-      listened = subst T (sym f.listened) heard;
+      listened = subst (λ (l : Option (Option ListensAt)). ListensNow l table.listen table.workers) (sym f.listened) heard;
       worker = worker;
       only = f.only;
       rightly = λ e. (let x = failed e in let y = behind.accept_faults in let z = given.fresh.accept_faults in omega arith);
@@ -183,16 +139,27 @@ served wire old mid new table first ended before after journal closes worker rep
       printed = prints_quiet old mid new (if worker.accept_failed then _ else _) later f.later quiet f.printed;
       run = record {
         visits = w.visits;
+        last = w.last;
+        work = work;
         legal = rw f.journal_is (rw (← limits) legal);
         callers = rw f.journal_is (rw (← limits) callers);
         all = f.journal_is ∙ all;
-        fits = subst S none (subst R lim w.fits);
+        timed = rw f.journal_is
+            (subst (λ (l : List Entry). Rises last.first (entry_moments l) last.moment) (sym alone)
+            (rises_from last.first first.moment last.moment _ start (rises_to first.moment ended.moment last.moment _ w.done.doing.timed behind.moment)));
+        groups_are = λ address. ap (λ (g : Addr → List Addr). g address) groups ∙ given.groups address;
+        does = does;
+        log = rw f.journal_is (logged first.log last.log (work.acts ++ map Closed (idle_links table.limits journal)) given.fresh.log
+            (Logs-then first.log ended.log last.log work.acts (map Closed (idle_links table.limits journal)) wired.log shut));
+        paid = paid first ended last work given.fresh wired behind;
         number = number;
-        entered = w.count;
-        faults = let x = w.faults in let y = behind.dial_faults in let z = given.fresh.dial_faults in omega arith;
-        waited = let x = w.waited in let y = behind.ticks in let z = given.fresh.ticks in omega arith;
-        timed = rises_from _ first.moment last.moment _ (let x = given.fresh.moment in let y = w.later.first in let z = behind.first in omega arith) (rises_to first.moment ended.moment last.moment _ w.timed behind.moment);
-        log = rw f.journal_is (log_is first.log last.log (Then (Then V L) idle) given.fresh.log (Told-then first.log ended.log last.log (Then V L) idle worked (subst Q same told)));
+        entered = w.entered_is;
+        unkept = w.unkept_is;
+        failed = w.failed_is;
+        order = w.order;
+        there = w.there;
+        stopped = w.stopped;
+        cancelled = λ e. ((w.cancelled e).0, (let x = (w.cancelled e).1 in let y = behind.moment in let z = start in omega arith));
       };
     }
 

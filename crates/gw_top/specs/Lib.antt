@@ -1,4 +1,5 @@
 pub mod Command
+pub mod House
 pub mod Lines
 pub mod Load
 pub mod Methods

@@ -1,112 +1,198 @@
--- The run of one worker: its clients one after the other, with the pool's journal and the counts of its wire.
-use Rattle.std.specs.Prelude.{ℕ, ◌≡◌, Bool, false, List, [], ◌∷◌, ◌++◌, map, flat_map, sum_by, Option, Some, None, if◌then◌else◌}
+-- The run of one worker: its clients one after another, the pool's journal, and what the worker's wire counts.
+use Rattle.std.specs.Prelude.{ℕ, ◌≡◌, ◌≤◌, ◌<◌, ◌+◌, ◌-◌, ◌^◌, min, nat_lt, Bool, true, false, not, ◌&&◌, ◌||◌, List, [], ◌∷◌, ◌++◌, map, flat_map, sum_by, Option, Some, None}
+use Rattle.std.specs.List.{list_any}
 use Rattle.gw_wire.specs.declared.values.Act.{Act}
-use Rattle.gw_wire.specs.declared.values.Act.TheVariants.{Accepted, Closed, AcceptFailed, Ended}
+use Rattle.gw_wire.specs.declared.values.Act.TheVariants.{Accepted, Closed, AcceptFailed, Ended as ListenerEnded}
 use Rattle.gw_wire.specs.declared.values.Addr.{Addr}
-use Rattle.gw_wire.specs.Causes.{RoseBy}
-use Rattle.gw_wire.specs.Stretch.{Told, Then, Acts}
-use Rattle.gw_wire.specs.Wire.{WireView, Later}
+use Rattle.gw_wire.specs.Causes.{Rose, RoseBy}
+use Rattle.gw_wire.specs.Moments.{Rises}
+use Rattle.gw_wire.specs.Wire.{WireView}
 use Rattle.gw_pool.specs.declared.entry.Entry.{Entry}
-use Rattle.gw_pool.specs.declared.limits.Limits.{Limits}
 use Rattle.gw_pool.specs.History.{IsLegal, AreBelow}
 use Rattle.gw_pool.specs.Idle.{idle_links}
-use Rattle.gw_pool.specs.Lent.{Lent}
+use Rattle.gw_pool.specs.Moments.{entry_moments}
+use Rattle.gw_account.specs.Did.{Span}
+use Rattle.gw_account.specs.Work.{Bill, Work, At, Idle, Only, Seq, free}
 use Rattle.gw_routes.specs.declared.table.Table.{Table}
-use Rattle.gw_session.specs.declared.end.Ended.{Ended as SessionEnded}
-use Rattle.gw_session.specs.Resting.{IsRested, Grows}
-use Rattle.gw_wire.specs.Moments.{Rises}
-use Rattle.gw_session.specs.Session as Turns
-use Rattle.gw_session.specs.Session.{Session}
-use Rattle.gw_session.specs.Turn.{Turn, counted}
+use Rattle.gw_transport.specs.Leasing.{IsRested}
+use Rattle.gw_transport.specs.Watch.{times_found}
+use Rattle.gw_session.specs.declared.end.Ended.{Ended}
+use Rattle.gw_session.specs.declared.end.Ended.TheVariants as ended
+use Rattle.gw_session.specs.declared.end.Why.{Why}
+use Rattle.gw_session.specs.declared.end.Why.TheVariants as why
+use Rattle.gw_session.specs.Seats.{Seats, SeatsGo}
+use Rattle.gw_session.specs.Session.{Session, begun_in, cancelled_in, spots, stops_in}
+use Rattle.gw_session.specs.Stand.{Done}
+use Rattle.gw_session.specs.Turn.{Turn, begun_of, stops}
 use Rattle.gw_top.specs.declared.worker.Worker.{Worker}
+
+-- ---- a worker's clients
 
 -- a client that was accepted: how its session ended, and the turns of it
 pub record Visit : Type 0 where
   pub client : ℕ
   pub peer : List ℕ
-  pub ended : SessionEnded
+  pub ended : Ended
   pub turns : List Turn
 
-abbrev pub Visited : (Addr → List Addr) → Table → Visit → List Act → Type 0
-Visited groups table v = Then (Acts (Accepted v.client v.peer ∷ [])) (Session v.client v.peer groups table v.ended v.turns)
+-- the node of the contexts that the only worker's requests end with, below the base
+abbrev pub own_node : ℕ
+own_node = 1
 
-abbrev pub Visits : (Addr → List Addr) → Table → List Visit → List Act → Type 0
-Visits groups table [] acts = acts ≡ []
-Visits groups table (v ∷ later) acts = Then (Visited groups table v) (Visits groups table later) acts
+abbrev pub Visited : Table → Visit → At → Work → Type 0
+Visited table v =
+    Seq (Only free (λ acts. acts ≡ Accepted v.client v.peer ∷ []))
+    (Session v.client (spots v.client v.peer (λ number. table) own_node) v.ended v.turns)
 
--- the caller's entries in all of them, in their order
-abbrev pub made_by : List Visit → List Entry
-made_by visits = flat_map (λ v. Turns.made_by v.turns) visits
+abbrev pub Visits : Table → List Visit → At → Work → Type 0
+Visits table [] a w = Idle a w
+Visits table (v ∷ later) a w = Seq (Visited table v) (Visits table later) a w
 
--- each exchange fits the history before it
-abbrev pub Follow : Limits → List Entry → List Visit → Type 0
-Follow limits history [] = Unit {0}
-Follow limits history (v ∷ later) = Turns.Follow limits history v.turns × Follow limits (history ++ Turns.made_by v.turns) later
+abbrev pub turns_of : List Visit → List Turn
+turns_of visits = flat_map (λ v. v.turns) visits
 
--- how many requests began, how many dials failed, and how many ticks were waited through in waits that were given up
-abbrev pub began_by : List Visit → ℕ
-began_by visits = sum_by (λ v. Turns.began_by v.turns) visits
+-- a count that stands still at its type's end
+abbrev pub counted : ℕ → ℕ
+counted n = min n (2 ^ 64 - 1)
 
-abbrev pub failed_by : List Visit → ℕ
-failed_by visits = sum_by (λ v. Turns.failed_by v.turns) visits
+-- how many sessions ended for want of memory
+abbrev pub unkept : Ended → ℕ
+unkept ended.NoMemory = 1
+unkept (ended.Closed reason) = 0
 
-abbrev pub waits_by : List Visit → ℕ
-waits_by visits = sum_by (λ v. Turns.waits_by v.turns) visits
+abbrev pub unkept_in : List Visit → ℕ
+unkept_in visits = sum_by (λ v. unkept v.ended) visits
 
--- the moments of the caller's entries and of the replies
-abbrev pub moments_by : List Visit → List ℕ
-moments_by visits = flat_map (λ v. Turns.moments_by v.turns) visits
+-- how they come to their end: the listener ended, an accept failed, or the gate was seen shut between two of them
+pub data Last : Type 0 where
+  AtEnd : Last
+  AtFailure : Last
+  AtGate : Last
 
--- clients were served since, and so many requests began
-pub record Serving (old new : WireView) (before after : Lent) (table : Table) (entered : ℕ) (visits : List Visit) : Type 0 where
-  pub later : Later old new
-  pub fresh : new.aged ≡ false
-  pub rested : IsRested after
-  pub fits : Follow before.limits before.seen visits
-  pub grows : Grows before after (made_by visits)
-  pub count : entered ≡ counted (began_by visits)
-  pub faults : RoseBy (failed_by visits) old.dial_faults new.dial_faults
-  pub waited : RoseBy (waits_by visits) old.ticks new.ticks
-  pub timed : Rises old.moment (moments_by visits) new.moment
-  pub log : Told old.log new.log (Visits old.groups table visits)
+abbrev pub last_acts : Last → List Act
+last_acts AtEnd = ListenerEnded ∷ []
+last_acts AtFailure = AcceptFailed ∷ []
+last_acts AtGate = []
 
--- a worker's last act but for closes: the listener ended, or an accept failed
-abbrev pub last_act : Bool → Act
-last_act failed = if failed then AcceptFailed else Ended
+abbrev pub is_failure : Last → Bool
+is_failure AtEnd = false
+is_failure AtFailure = true
+is_failure AtGate = false
 
--- a worker served clients until its listener ended or an accept failed
-pub record Worked (old new : WireView) (before after : Lent) (table : Table) (entered : ℕ) (failed : Bool) : Type 0 where
+abbrev pub is_gate : Last → Bool
+is_gate AtEnd = false
+is_gate AtFailure = false
+is_gate AtGate = true
+
+-- all that a worker does
+abbrev pub Works : Table → List Visit → Last → At → Work → Type 0
+Works table visits last = Seq (Visits table visits) (Only free (λ acts. acts ≡ last_acts last))
+
+-- ---- the stop
+
+-- a session ended since the gate was seen shut
+abbrev pub is_gate_reason : Why → Bool
+is_gate_reason why.Refused = true
+is_gate_reason why.Shut = true
+is_gate_reason _ = false
+
+abbrev pub is_gate_end : Ended → Bool
+is_gate_end ended.NoMemory = false
+is_gate_end (ended.Closed reason) = is_gate_reason reason
+
+-- a client in whose session the gate was seen shut, or was shut
+abbrev pub saw_shut : Visit → Bool
+saw_shut v = is_gate_end v.ended || stops_in v.turns
+
+-- the gate was seen shut with one of them, or by the worker between two of them
+abbrev pub needs_stop : List Visit → Last → Bool
+needs_stop visits last = list_any saw_shut visits || is_gate last
+
+-- behind such a client no other one is accepted: the worker ends at the gate
+abbrev pub ends_there : List Visit → Last → Bool
+ends_there [] last = true
+ends_there (v ∷ []) last = not (saw_shut v) || is_gate last
+ends_there (v ∷ next ∷ later) last = not (saw_shut v) && ends_there (next ∷ later) last
+
+-- behind a request that shut the gate no other one begins
+abbrev pub in_order : Bool → List Turn → Bool
+in_order stopped [] = true
+in_order stopped (turn ∷ turns) = not (stopped && nat_lt 0 (begun_of turn)) && in_order (stopped || stops turn) turns
+
+-- ---- a worker's steps
+
+-- a worker served clients until it ended
+pub record Worked (s : Span) (old new : Seats) (table : Table) (entered unkept : ℕ) (failed : Bool) : Type 0 where
   pub visits : List Visit
-  pub later : Later old new
-  pub fresh : new.aged ≡ false
-  pub rested : IsRested after
-  pub fits : Follow before.limits before.seen visits
-  pub grows : Grows before after (made_by visits)
-  pub count : entered ≡ counted (began_by visits)
-  pub faults : RoseBy (failed_by visits) old.dial_faults new.dial_faults
-  pub waited : RoseBy (waits_by visits) old.ticks new.ticks
-  pub timed : Rises old.moment (moments_by visits) new.moment
-  pub log : Told old.log new.log (Then (Visits old.groups table visits) (Acts (last_act failed ∷ [])))
+  pub last : Last
+  pub done : Done s (Works table visits last)
+  pub entered_is : entered ≡ counted (begun_in (turns_of visits))
+  pub unkept_is : unkept ≡ counted (unkept_in visits)
+  pub failed_is : failed ≡ is_failure last
+  pub order : in_order false (turns_of visits) ≡ true
+  pub there : ends_there visits last ≡ true
+  pub seats : SeatsGo old new own_node table.grace_ms s.old.moment s.new.moment (stops_in (turns_of visits))
+  pub held : new.gate.view.held ≡ old.gate.view.held
+  pub seen : needs_stop visits last ≡ true → new.gate.view.seen_shut ≡ true
+  pub cancelled : cancelled_in (turns_of visits) ≡ true → Rose (times_found own_node old.words.view.ended) (times_found own_node new.words.view.ended)
+  pub rested : IsRested s.after
 
--- a log that is told is all of this
-abbrev pub LogIs : Option (List Act) → (List Act → Type 0) → Type 0
-LogIs None P = Unit {0}
-LogIs (Some acts) P = P acts
+-- a worker that had the gate and the contexts to itself, which are closed behind it
+pub record WorkedAlone (s : Span) (table : Table) (entered unkept : ℕ) (failed : Bool) : Type 0 where
+  pub visits : List Visit
+  pub last : Last
+  pub done : Done s (Works table visits last)
+  pub entered_is : entered ≡ counted (begun_in (turns_of visits))
+  pub unkept_is : unkept ≡ counted (unkept_in visits)
+  pub failed_is : failed ≡ is_failure last
+  pub order : in_order false (turns_of visits) ≡ true
+  pub there : ends_there visits last ≡ true
+  pub stopped : needs_stop visits last ≡ true → stops_in (turns_of visits) ≡ true
+  pub cancelled : cancelled_in (turns_of visits) ≡ true → (stops_in (turns_of visits) ≡ true) × (s.old.moment + table.grace_ms < s.new.moment)
+  pub rested : IsRested s.after
 
--- The run of one worker over a table. The journal is one legal history: the entries of its exchanges in their order,
--- and no others. Its log is its clients one after the other, then the end, then a close of each connection that is idle
--- at the end of the history. An address stands for a group of these members, or for itself.
+-- ---- the run
+
+-- where the only worker begins: at a pool whose history is empty
+abbrev pub first_at : Table → (Addr → List Addr) → At
+first_at table groups = record { limits = table.limits; caller = 0; groups = groups; history = [] }
+
+-- what a bill owes is paid by a wire's counts, from its beginning on; the moments of replies rise
+pub record IsPaid (wire : WireView) (bill : Bill) : Type 0 where
+  pub dials : RoseBy bill.dials 0 wire.dial_faults
+  pub millis : wire.first + bill.millis ≤ wire.moment
+  pub ticks : RoseBy bill.ticks 0 wire.ticks
+  pub rests : RoseBy bill.rests 0 wire.rests
+  pub said : Rises wire.first bill.said wire.moment
+
+-- a log that is told is this
+abbrev pub LogIs : Option (List Act) → List Act → Type 0
+LogIs None acts = Unit {0}
+LogIs (Some log) acts = log ≡ acts
+
+-- The run of one worker over a table. The journal is one legal history: the entries of its work in their order, and no
+-- others; their moments rise. Its work is its clients, one after another, and the end; its log is the work's acts, and
+-- then a close of each connection that is idle at the end of the history. Its wire's counts pay what its sessions owe. A
+-- session ended since the gate was seen shut, or the worker did, only where a request shut it, behind which no other one
+-- began; one was cancelled only there, behind the time of grace.
 pub record Run {W : Type 0} (wire : W → WireView) (groups : Addr → List Addr) (table : Table) (journal : List Entry) (worker : Worker W) : Type 0 where
   pub visits : List Visit
+  pub last : Last
+  pub work : Work
   pub legal : IsLegal table.limits journal
   pub callers : AreBelow table.limits.passes journal
-  pub all : journal ≡ made_by visits
-  pub fits : Follow table.limits [] visits
+  pub all : journal ≡ work.made
+  pub timed : Rises (wire worker.wire).first (entry_moments journal) (wire worker.wire).moment
+  pub groups_are : (address : Addr) → (wire worker.wire).groups address ≡ groups address
+  pub does : Works table visits last (first_at table (wire worker.wire).groups) work
+  pub log : LogIs (wire worker.wire).log (work.acts ++ map Closed (idle_links table.limits journal))
+  pub paid : IsPaid (wire worker.wire) work.bill
   pub number : worker.number ≡ 0
-  pub entered : worker.entered ≡ counted (began_by visits)
-  pub faults : RoseBy (failed_by visits) 0 (wire worker.wire).dial_faults
-  pub waited : RoseBy (waits_by visits) 0 (wire worker.wire).ticks
-  pub timed : Rises (wire worker.wire).first (moments_by visits) (wire worker.wire).moment
-  pub log : LogIs (wire worker.wire).log
-      (Then (Then (Visits groups table visits) (Acts (last_act worker.accept_failed ∷ [])))
-      (Acts (map Closed (idle_links table.limits journal))))
+  pub entered : worker.entered ≡ counted (begun_in (turns_of visits))
+  pub unkept : worker.unkept ≡ counted (unkept_in visits)
+  pub failed : worker.accept_failed ≡ is_failure last
+  pub order : in_order false (turns_of visits) ≡ true
+  pub there : ends_there visits last ≡ true
+  pub stopped : needs_stop visits last ≡ true → stops_in (turns_of visits) ≡ true
+  pub cancelled : cancelled_in (turns_of visits) ≡ true
+      → (stops_in (turns_of visits) ≡ true) × ((wire worker.wire).first + table.grace_ms < (wire worker.wire).moment)

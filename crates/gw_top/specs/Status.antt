@@ -7,10 +7,11 @@ use Rattle.gw_wire.specs.World.{WorldView, WorldLater, ListensNow}
 use Rattle.gw_pool.specs.declared.entry.Entry.{Entry}
 use Rattle.gw_routes.specs.declared.table.Table.{Table}
 use Rattle.gw_routes.specs.Files.{AreNumbered, HasWorkers}
-use Rattle.gw_session.specs.Resting.{IsRested}
+use Rattle.gw_transport.specs.Leasing.{IsRested}
 use Rattle.gw_top.specs.declared.run.Setup.{Setup}
 use Rattle.gw_top.specs.declared.run.Report.{Report}
 use Rattle.gw_top.specs.declared.worker.Worker.{Worker}
+use Rattle.gw_top.specs.House.{IsUnused}
 use Rattle.gw_top.specs.Command.{IsServe, name_of}
 use Rattle.gw_top.specs.Lines.{usage_line, unheard_line, memory_line, accept_line}
 use Rattle.gw_top.specs.Load.{Prints, SaysTable, NoTable}
@@ -87,5 +88,7 @@ pub record IsReady {C W : Type 0} (setup : Setup W C) : Type 0 where
   pub rested : IsRested setup.pool
   pub seen : setup.pool.seen ≡ []
   pub mine : setup.pool.mine ≡ []
+  pub number : setup.pool.number ≡ 0
+  pub house : IsUnused setup.house
   pub nobody : setup.workers.items ≡ []
   pub place : 0 < vec_capacity setup.workers

@@ -2,6 +2,7 @@
 #![tactic(auto)]
 
 mod command;
+mod house;
 mod inspect;
 mod load;
 mod methods;

@@ -9,8 +9,9 @@ ghost use Rattle.gw_top.specs.Lines.{unheard_line};
 ghost use Rattle.gw_top.specs.Status.{Ran, Ends, Refuses, RefusesOr7, Finished, IsReady};
 
 use crate::command::{USAGE, serve_name};
+use crate::house::{House, build, work_alone};
 use crate::load::load_table;
-use crate::worker::{Worker, work};
+use crate::worker::Worker;
 use gw_pool::{Closed, Entry, Solo};
 use gw_routes::Table;
 use gw_wire::{Addr, Listening, Wire, World};
@@ -22,7 +23,7 @@ use std::thread::Threads;
 /// workers.
 #[derive(Drop)]
 pub struct Report<W> {
-    /// 0: every worker ended with the listener. 2: the words are no command's form. 3: the route file can't be read.
+    /// 0: every worker ended with the listener, or behind the shut gate. 2: the words are no command's form. 3: the route file can't be read.
     /// 4: the route file has a fault. 5: two of its patterns conflict. 6: the address can't be listened on. 7: want of memory. 8: an accept failed.
     pub status: u8,
     /// The table that was served.
@@ -37,6 +38,7 @@ pub struct Report<W> {
 struct Setup<W: Wire> {
     table: Table,
     pool: Solo<W::Conn>,
+    house: House,
     workers: Vec<Worker<W>>,
 }
 
@@ -70,10 +72,12 @@ fn prepare<W: Wire>(alloc: Global, table: Table) -> Result<Setup<W>, AllocError>
     ensures ready { IfOk result (λ setup. IsReady setup) }
     ensures serves { IfOk result (λ setup. setup.table ≡ table) }
 {
+    let house = build(alloc)?;
     let pool = Solo::open(alloc, table.limits)?;
     Ok(Setup {
         table,
         pool,
+        house,
         workers: Vec::with_capacity(alloc, 1)?,
     })
 }
@@ -91,6 +95,7 @@ fn listen_and_serve<R: Wait, H: World>(
     let Setup {
         table,
         mut pool,
+        house,
         workers,
     } = setup;
     let wire = match world.listen(&table.listen, table.workers) {
@@ -102,9 +107,10 @@ fn listen_and_serve<R: Wait, H: World>(
         number: 0,
         wire,
         entered: 0,
+        unkept: 0,
         accept_failed: false,
     };
-    work(rt, alloc, &mut worker, &mut pool, &table);
+    work_alone(rt, alloc, &mut worker, &mut pool, house, &table);
     let Ok(Closed { journal, idle }) = pool.close() else {
         return refuse(alloc, world, 7, b"out of memory\n");
     };

@@ -9,6 +9,7 @@ mod passing;
 mod replies;
 mod reuse;
 mod runs;
+mod stops;
 
 use super::*;
 use gw_pool::{Call, Entry, Offer, Reply};

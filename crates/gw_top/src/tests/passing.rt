@@ -34,7 +34,7 @@ const EXCHANGES: [Exchange; 7] = [
     Exchange {
         name: "bad_chunk",
         request: "POST /up HTTP/1.1\r\nHost: example.com\r\nTransfer-Encoding: chunked\r\n\r\n4\r\nWikiX\r\n0\r\n\r\n",
-        to_backend: "",
+        to_backend: "POST /up HTTP/1.1\r\nHost: example.com\r\nTransfer-Encoding: chunked\r\nX-Forwarded-For: 10.0.0.7\r\n\r\n",
         reply: "HTTP/1.1 204 No Content\r\n\r\n",
         to_client: "HTTP/1.1 400 Bad Request\r\nConnection: close\r\nContent-Length: 16\r\nDate: Sun, 06 Nov 1994 08:49:37 GMT\r\n\r\n400 Bad Request\n",
     },

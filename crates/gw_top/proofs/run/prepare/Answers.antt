@@ -1,18 +1,19 @@
-use Rattle.std.proofs.Common.{◌≡◌, arith}
-use Rattle.gw_session.proofs.PoolLemmas.{rested_opened}
+use Rattle.std.proofs.Common.{ap, arith}
+use Rattle.gw_pool.specs.declared.limits.Limits.{Limits}
 use Rattle.gw_top.proofs.run.prepare.Goals as goal
 
 pub returns-clause-ready : goal.returns-clause-ready
 returns-clause-ready g c =
     let made = c.in_ok-pool.ensures in
-    let alone : c.args.table.limits.passes ≡ 1 = (let p = c.requires.workers.passes in let l = c.requires.workers.least in let m = c.requires.workers.most in omega arith) in
     record {
       numbered = c.requires.numbered;
       workers = c.requires.workers;
       limits = made.limits;
-      rested = rested_opened c.in_ok-pool.pool c.args.table.limits made.seen made.out made.number made.limits alone (let o = c.requires.numbered.one in omega arith) made.running;
+      rested = record { holds = record { out = made.out; running = made.running }; few = (let one = c.requires.numbered.one in let same = ap (λ (l : Limits). l.per_pass) made.limits in omega arith) };
       seen = made.seen;
       mine = made.mine;
+      number = made.number;
+      house = c.in_ok-house.ensures;
       nobody = c.in_ok-with_capacity.ensures.items;
       place = omega (arith, c.in_ok-with_capacity.ensures.exact);
     }
