@@ -1,14 +1,23 @@
-"""A backend to try the gateway with: it answers with its port, what was asked for, and how many bytes came along."""
+"""A backend to try the gateway with: it answers with its port, the number of the connection, what was asked for, and how
+many bytes came along. Behind `/leave` it closes the connection without having said so."""
 
 import http.server
+import itertools
 import sys
+
+connections = itertools.count(1)
 
 
 class Backend(http.server.BaseHTTPRequestHandler):
     protocol_version = "HTTP/1.1"
 
+    def setup(self):
+        super().setup()
+        self.number = next(connections)
+
     def do_GET(self):
-        self.answer(f"hello from backend {self.server.server_port}: {self.path}\n")
+        self.answer(f"hello from backend {self.server.server_port}, connection {self.number}: {self.path}\n")
+        self.close_connection = self.close_connection or self.path == "/leave"
 
     def do_POST(self):
         count = len(self.chunks() if "chunked" in self.headers.get("Transfer-Encoding", "") else self.counted())
