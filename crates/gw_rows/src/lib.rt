@@ -4,6 +4,8 @@
 #[cfg(test)]
 mod cancel_tests;
 #[cfg(test)]
+mod late_tests;
+#[cfg(test)]
 mod losing_tests;
 #[cfg(test)]
 mod owed;
