@@ -13,7 +13,7 @@ use Rattle.gw_transport.specs.declared.leasing.Leased.{Leased}
 use Rattle.gw_transport.specs.declared.leasing.Leased.TheVariants as leased
 use Rattle.gw_transport.specs.declared.leasing.Wanted.TheVariants as wanted
 use Rattle.gw_stream.specs.Guard.{GuardGoes, GuardView, IsDue, LookStep}
-use Rattle.gw_transport.specs.Leasing.{Clearing, IsRested, Lateness, LeaseCause, LeasedBy, LeasedStep, Stops, WaitedBy, WaitedStep, WantedStep}
+use Rattle.gw_transport.specs.Leasing.{Clearing, IsRested, Lateness, LeaseCause, LeasedBy, LeasedStep, Stops, WaitedBy, WaitedStep, WantedStep, asked}
 use Rattle.gw_transport.specs.Parts.{Way, Comes, FindsExpired, Fits, GivesUp, IsPlace, IsRefused, IsWaiting, Leases, Repeats, Sees, Unreached, Wants, a_million_rests}
 use Rattle.gw_transport.specs.Stretch.{Stretch}
 use Rattle.gw_transport.proofs.EndLemmas.{part_now}
@@ -71,10 +71,10 @@ leased_expired link old x y f g a b host backend now le n l w = record {
 -- ---- a want that was made
 
 leased_as : {C : Type 0} (host : ℕ) (backend : Addr) (want : ℕ) (answer : Reply) (way : Way) (late : Lateness) (result : Leased C) (a : At) (w : Work)
-    → Seq (Clearing host (Wants host want answer)) (WaitedBy host backend want answer way late result) a w → LeasedBy host backend late result a w
+    → Seq (Clearing host (Wants host want answer)) (WaitedBy (asked host backend want answer) way late result) a w → LeasedBy host backend late result a w
 leased_as host backend want answer way late (leased.Lease l) a w s =
     let count = s.3.0 in
-    let r = seq_right (Repeats count (FindsExpired host)) (Wants host want answer) (WaitedBy host backend want answer way late (leased.Lease l)) a w (s.0, s.1, s.2, s.3.2, s.4) in
+    let r = seq_right (Repeats count (FindsExpired host)) (Wants host want answer) (WaitedBy (asked host backend want answer) way late (leased.Lease l)) a w (s.0, s.1, s.2, s.3.2, s.4) in
     let t = r.4 in
     let row = row_of a.caller l in
     let same : want ≡ l.want = sym t.4.0 in
@@ -84,23 +84,23 @@ leased_as host backend want answer way late (leased.Lease l) a w s =
     (count, s.3.1, (r.0, r.1, r.2, r.3, (answer, way, subst F same t.4.1, (t.0, t.1, t.2, subst W same t.3, subst K same t.4.2))))
 leased_as {C = C} host backend want answer way late leased.Unreachable a w s =
     let count = s.3.0 in
-    let r = seq_right (Repeats count (FindsExpired host)) (Wants host want answer) (WaitedBy {C = C} host backend want answer way late leased.Unreachable) a w (s.0, s.1, s.2, s.3.2, s.4) in
+    let r = seq_right (Repeats count (FindsExpired host)) (Wants host want answer) (WaitedBy {C = C} (asked host backend want answer) way late leased.Unreachable) a w (s.0, s.1, s.2, s.3.2, s.4) in
     let t = r.4 in
     (count, s.3.1, (r.0, r.1, r.2, r.3, (want, answer, t.4.0, (t.0, t.1, t.2, t.3, t.4.1))))
 leased_as host backend want answer way late leased.Full a w s = absurd s.4
 leased_as {C = C} host backend want answer way late leased.Cancelled a w s =
     let count = s.3.0 in
-    let r = seq_right (Repeats count (FindsExpired host)) (Wants host want answer) (WaitedBy {C = C} host backend want answer way late leased.Cancelled) a w (s.0, s.1, s.2, s.3.2, s.4) in
+    let r = seq_right (Repeats count (FindsExpired host)) (Wants host want answer) (WaitedBy {C = C} (asked host backend want answer) way late leased.Cancelled) a w (s.0, s.1, s.2, s.3.2, s.4) in
     let t = r.4 in
     inr (count, s.3.1, (r.0, r.1, r.2, r.3, (want, answer, t.4.0, (t.0, t.1, t.2, t.3, t.4.1))))
 leased_as {C = C} host backend want answer way Lateness.ByDeadline leased.Late a w s =
     let count = s.3.0 in
-    let r = seq_right (Repeats count (FindsExpired host)) (Wants host want answer) (WaitedBy {C = C} host backend want answer way Lateness.ByDeadline leased.Late) a w (s.0, s.1, s.2, s.3.2, s.4) in
+    let r = seq_right (Repeats count (FindsExpired host)) (Wants host want answer) (WaitedBy {C = C} (asked host backend want answer) way Lateness.ByDeadline leased.Late) a w (s.0, s.1, s.2, s.3.2, s.4) in
     let t = r.4 in
     inr (count, s.3.1, (r.0, r.1, r.2, r.3, (want, answer, t.4.0, (t.0, t.1, t.2, t.3, t.4.1))))
 leased_as {C = C} host backend want answer way Lateness.ByRests leased.Late a w s =
     let count = s.3.0 in
-    let r = seq_right (Repeats count (FindsExpired host)) (Wants host want answer) (WaitedBy {C = C} host backend want answer way Lateness.ByRests leased.Late) a w (s.0, s.1, s.2, s.3.2, s.4) in
+    let r = seq_right (Repeats count (FindsExpired host)) (Wants host want answer) (WaitedBy {C = C} (asked host backend want answer) way Lateness.ByRests leased.Late) a w (s.0, s.1, s.2, s.3.2, s.4) in
     let t = r.4 in
     (count, s.3.1, (r.0, r.1, r.2, r.3, (want, answer, t.4.0, (t.0, t.1, t.2, t.3, t.4.1))))
 leased_as {C = C} host backend want answer way Lateness.ByExpired leased.Late a w s = absurd s.4
@@ -139,7 +139,7 @@ cause_from f g h moment Lateness.ByTicks leased.Late le same k = tt
 
 pub leased_waited : {C : Type 0} (link : C → LinkView) (old x y z : WireView) (f g h : GuardView) (a b c : Lent) (host : ℕ) (backend : Addr) (now : ℕ) (t : Ticket) (result : Leased C)
     → f.last ≤ old.moment → NowStep old x now → LookStep f g now sight.On → (w : WantedStep (span x y a b) host (wanted.Ticket t))
-    → WaitedStep link (span y z b c) g h host backend t.want w.answer result → LeasedStep link (span old z a c) f h host backend result
+    → WaitedStep link (span y z b c) g h (asked host backend t.want w.answer) result → LeasedStep link (span old z a c) f h host backend result
 leased_waited link old x y z f g h a b c host backend now t result le n l w k =
     let first = begun old x f g a now le n l.goes in
     let wants = stretch_part g (let s = l.goes.seen in let e = n.given in omega arith) w.did in

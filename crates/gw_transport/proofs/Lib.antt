@@ -4,6 +4,7 @@ mod ClosingLemmas
 mod DialLemmas
 mod EndLemmas
 mod ExchangeLemmas
+pub mod Facts
 mod FailLemmas
 mod HeadLemmas
 mod LeaseLemmas

@@ -107,7 +107,7 @@ ending_quiet : (f : Act → List ℕ) (k : ℕ) → SkipsReads f k → (at new :
 ending_quiet f k s at new left ending (inl e) = ap (flat_map f) e.1
 ending_quiet f k s at new left ending (inr e) = ap (flat_map f) e.3 ∙ end_quiet f k s
 
-loss_quiet : (f : Act → List ℕ) (k : ℕ) → SkipsReads f k → (why : Loss) → IsQuiet f (loss_acts k why)
+pub loss_quiet : (f : Act → List ℕ) (k : ℕ) → SkipsReads f k → (why : Loss) → IsQuiet f (loss_acts k why)
 loss_quiet f k s loss.End = end_quiet f k s
 loss_quiet f k s loss.Failed = failure_quiet f k s
 loss_quiet f k s (loss.Stopped why) = refl

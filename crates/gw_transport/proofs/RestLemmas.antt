@@ -23,7 +23,7 @@ use Rattle.gw_stream.specs.declared.guard.Sight.TheVariants as sight
 use Rattle.gw_transport.specs.declared.leasing.Leased.{Leased}
 use Rattle.gw_transport.specs.declared.leasing.Leased.TheVariants as leased
 use Rattle.gw_stream.specs.Guard.{GuardGoes, GuardView, IsBefore, IsDue, LookStep}
-use Rattle.gw_transport.specs.Leasing.{AnswerStands, DialedBy, DialedStep, GaveUpStep, IsAsked, IsPending, LeaseCause, Lateness, WaitedBy, WaitedStep}
+use Rattle.gw_transport.specs.Leasing.{AnswerStands, DialedBy, DialedStep, GaveUpStep, IsAsked, IsPending, LeaseCause, Lateness, WaitedBy, WaitedStep, asked}
 use Rattle.gw_transport.specs.Parts.{Way, Cancels, Comes, Fails, Fits, IsGiven, IsPlace, Sees, a_million_rests}
 use Rattle.gw_transport.specs.Stretch.{Stretch}
 use Rattle.gw_transport.proofs.CallLemmas.{leased_so, row_taken}
@@ -136,7 +136,7 @@ given_of link b c host t l (reply.Dropped next) k m = tt
 given_of link b c host t l (reply.Taken d) k m = tt
 
 pub waited_taken : {C : Type 0} (link : C → LinkView) (old x : WireView) (f g : GuardView) (a b c : Lent) (host : ℕ) (backend : Addr) (want : ℕ) (answer : Reply) (held : Ticket) (now n : ℕ) (l : Lease C)
-    → Waiting old x f g a b host want answer held now n → AskTaken link b c held l → WaitedStep link (span old x a c) f g host backend want answer (leased.Lease l)
+    → Waiting old x f g a b host want answer held now n → AskTaken link b c held l → WaitedStep link (span old x a c) f g (asked host backend want answer) (leased.Lease l)
 waited_taken link old x f g a b c host backend want answer held now n l w m =
     let le = look_later old x f g a b host want answer held now n w in
     let ask = stretch_part g (omega (arith, w.read, le)) (part_looked x b c m.others w.did.doing.fresh m.looks (rose_kept b.waits c.waits m.leaves.waits)) in
@@ -173,7 +173,7 @@ fits_place want (reply.Taken c) row Way.ByOther p = tt
 -- what came of a dial, said of the want that was made
 dialed_as : {C : Type 0} (host : ℕ) (backend : Addr) (want held : ℕ) (answer : Reply) (way : Way) (result : Leased C) (a : At) (w : Work)
     → held ≡ want → IsPlace want answer → Seq (Sees free) (Seq (Sees free) (DialedBy host backend held way result)) a w
-    → WaitedBy host backend want answer way Lateness.ByDeadline result a w
+    → WaitedBy (asked host backend want answer) way Lateness.ByDeadline result a w
 dialed_as host backend want held answer way (leased.Lease l) a w same place s =
     let t = s.4 in
     let row = row_of a.caller l in
@@ -199,7 +199,7 @@ dialed_cause f g moment host backend want way leased.Late a w d = absurd d
 
 pub waited_dialed : {C : Type 0} (link : C → LinkView) (old x z : WireView) (f g : GuardView) (a b c e : Lent) (host : ℕ) (backend : Addr) (want : ℕ) (answer : Reply) (held back : Ticket) (now n : ℕ) (result : Leased C)
     → Waiting old x f g a b host want answer held now n → AskGranted b c held back → DialedStep link (span x z c e) host backend back.want result
-    → WaitedStep link (span old z a e) f g host backend want answer result
+    → WaitedStep link (span old z a e) f g (asked host backend want answer) result
 waited_dialed link old x z f g a b c e host backend want answer held back now n result w m d =
     let le = look_later old x f g a b host want answer held now n w in
     let low : g.last ≤ x.moment = omega (arith, w.read, le) in
@@ -244,7 +244,7 @@ rose_from a b c le r = omega arith
 
 pub waited_cancelled : {C : Type 0} (link : C → LinkView) (old x z : WireView) (f g h : GuardView) (a b c e : Lent) (host : ℕ) (backend : Addr) (want : ℕ) (answer : Reply) (held back : Ticket) (now n : ℕ)
     → Waiting old x f g a b host want answer held now n → AskNotYet b c held back → LookStep g h now sight.Cancelled → GaveUpStep (span x z c e) back.want
-    → WaitedStep {C = C} link (span old z a e) f h host backend want answer leased.Cancelled
+    → WaitedStep {C = C} link (span old z a e) f h (asked host backend want answer) leased.Cancelled
 waited_cancelled link old x z f g h a b c e host backend want answer held back now n w m l up =
     let place = answer_waits old x f g a b c host want answer held back now n w m in
     record {
@@ -257,7 +257,7 @@ waited_cancelled link old x z f g h a b c e host backend want answer held back n
 
 pub waited_due : {C : Type 0} (link : C → LinkView) (old x z : WireView) (f g h : GuardView) (a b c e : Lent) (host : ℕ) (backend : Addr) (want : ℕ) (answer : Reply) (held back : Ticket) (now n : ℕ)
     → Waiting old x f g a b host want answer held now n → AskNotYet b c held back → LookStep g h now sight.Late → GaveUpStep (span x z c e) back.want
-    → WaitedStep {C = C} link (span old z a e) f h host backend want answer leased.Late
+    → WaitedStep {C = C} link (span old z a e) f h (asked host backend want answer) leased.Late
 waited_due link old x z f g h a b c e host backend want answer held back now n w m l up =
     let place = answer_waits old x f g a b c host want answer held back now n w m in
     let P : ℕ → Type 0 = λ i. IsDue f.deadline i in
@@ -292,7 +292,7 @@ was_waiting n want answer e (inr is) = is
 
 pub waited_out : {C : Type 0} (link : C → LinkView) (old x z : WireView) (f g : GuardView) (a b e : Lent) (host : ℕ) (backend : Addr) (want : ℕ) (answer : Reply) (held : Ticket) (now n : ℕ)
     → n ≡ 1000000 → Waiting old x f g a b host want answer held now n → GaveUpStep (span x z b e) held.want
-    → WaitedStep {C = C} link (span old z a e) f g host backend want answer leased.Late
+    → WaitedStep {C = C} link (span old z a e) f g (asked host backend want answer) leased.Late
 waited_out link old x z f g a b e host backend want answer held now n all w up =
     let le = look_later old x f g a b host want answer held now n w in
     let X : ℕ → Type 0 = λ i. RoseBy i old.rests x.rests in

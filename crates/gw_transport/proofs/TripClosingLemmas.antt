@@ -14,10 +14,12 @@ use Rattle.gw_stream.specs.declared.waits.Sent.TheVariants as sent
 use Rattle.gw_stream.specs.declared.waits.Stop.TheVariants as stops
 use Rattle.gw_stream.specs.Relaying.{Came}
 use Rattle.gw_stream.specs.Waits.{SaysFront}
+use Rattle.gw_transport.specs.declared.attempts.Attempted.{Attempted}
 use Rattle.gw_transport.specs.declared.attempts.Tried.{Tried}
 use Rattle.gw_transport.specs.declared.attempts.Tried.TheVariants as tried
 use Rattle.gw_transport.specs.declared.replying.Begun.{Begun}
 use Rattle.gw_transport.specs.declared.replying.End.{End}
+use Rattle.gw_transport.specs.Attempts.{AttemptedBy, ErrandView}
 use Rattle.gw_transport.specs.Closing.{ClosesWhatLeaves, TripsCloseWhatLeaves, UploadTripsCloseWhatLeaves, closed_by}
 use Rattle.gw_transport.specs.Leasing.{Lateness}
 use Rattle.gw_transport.specs.Sending.{Exchanges, ExchangesKept, KeptView, Unsent}
@@ -27,10 +29,10 @@ use Rattle.gw_transport.proofs.ClosingLemmas.{attempted_closing, only_closing}
 use Rattle.gw_transport.proofs.QuietLemmas.{IsQuiet, SkipsReads, SkipsWrites, comes_quiet, quiet_then, replies_quiet, says_quiet, writes_quiet}
 
 -- neither a read nor a write closes a link
-reads_close : (k : ℕ) → SkipsReads closed_by k
+pub reads_close : (k : ℕ) → SkipsReads closed_by k
 reads_close k = record { read = λ piece. refl; end = refl; failed = refl }
 
-writes_close : (k : ℕ) → SkipsWrites closed_by k
+pub writes_close : (k : ℕ) → SkipsWrites closed_by k
 writes_close k = record { wrote = λ piece. refl; failed = refl }
 
 -- ---- a kept body
@@ -59,8 +61,12 @@ kept_closing from to link result late a w d =
     only_closing _ (Exchanges link (request_text_of from.out from.body) from.out.method to.place to.ahead result)
     (λ acts x. exchanges_closing link (request_text_of from.out from.body) from.out.method to.ahead to.place result acts x) a w d.only
 
+pub kept_trips_close : {C : Type 0} (errand : ErrandView) (from to : KeptView) (result : Attempted C Begun End) (late : Lateness) (a : At) (w : Work)
+    → AttemptedBy ExchangesKept errand from to result late a w → ClosesWhatLeaves a w
+kept_trips_close errand from to result late a w s = attempted_closing ExchangesKept errand kept_closing from to result late a w s
+
 pub trips_close : {C : Type 0} (link : C → LinkView) → TripsCloseWhatLeaves link
-trips_close link errand from to result late a w s = attempted_closing ExchangesKept errand kept_closing from to result late a w s
+trips_close link errand from to result late a w s = kept_trips_close errand from to result late a w s
 
 -- ---- a body that is read of the client
 
@@ -72,7 +78,7 @@ nil_second : (x y : List ℕ) → x ++ y ≡ [] → y ≡ []
 nil_second [] y e = e
 nil_second (n ∷ x) y e = absurd (cc)
 
-shuffle_quiet : (f : Act → List ℕ) (one other acts : List Act) → Shuffle one other acts → IsQuiet f one → IsQuiet f other → IsQuiet f acts
+pub shuffle_quiet : (f : Act → List ℕ) (one other acts : List Act) → Shuffle one other acts → IsQuiet f one → IsQuiet f other → IsQuiet f acts
 shuffle_quiet f one other [] s p q = refl
 shuffle_quiet f one other (act ∷ acts) (inl s) p q =
     let front : f act ++ flat_map f s.0 ≡ [] = sym (ap (flat_map f) s.1) ∙ p in
@@ -109,5 +115,9 @@ upload_closing from to link result late a w d =
       | inr (inr p) ↦ subst (λ (x : Work). ClosesWhatLeaves a x) (sym p.idle) refl
     ]
 
+pub upload_trips_close : {C : Type 0} (errand : ErrandView) (from to : UploadView) (result : Attempted C Begun End) (late : Lateness) (a : At) (w : Work)
+    → AttemptedBy ExchangesUpload errand from to result late a w → ClosesWhatLeaves a w
+upload_trips_close errand from to result late a w s = attempted_closing ExchangesUpload errand upload_closing from to result late a w s
+
 pub uploads_close : {C : Type 0} (link : C → LinkView) → UploadTripsCloseWhatLeaves link
-uploads_close link errand from to result late a w s = attempted_closing ExchangesUpload errand upload_closing from to result late a w s
+uploads_close link errand from to result late a w s = upload_trips_close errand from to result late a w s

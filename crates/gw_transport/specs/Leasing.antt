@@ -172,22 +172,32 @@ pub record GaveUpStep (s : Span) (want : ℕ) : Type 0 where
   pub moment : s.new.moment ≡ s.old.moment
   pub rested : IsRested s.after
 
--- what was done behind a want that was answered so
-abbrev pub WaitedBy : {C : Type 0} → ℕ → Addr → ℕ → Reply → Way → Lateness → Leased C → At → Work → Type 0
-WaitedBy host backend want answer way late (leased.Lease l) a w =
-    (l.want ≡ want) × Fits want answer (row_of a.caller l) way × Comes host backend want (row_of a.caller l) way a w
-WaitedBy host backend want answer way late leased.Unreachable a w = IsPlace want answer × Fails host backend want a w
-WaitedBy host backend want answer way late leased.Full a w = ⊥
-WaitedBy host backend want answer way late leased.Cancelled a w = IsPlace want answer × Seq (Sees free) (Cancels want) a w
-WaitedBy host backend want answer way ByDeadline leased.Late a w = IsPlace want answer × Seq (Sees free) (Cancels want) a w
-WaitedBy host backend want answer way ByRests leased.Late a w = IsWaiting want answer × Seq (Sees a_million_rests) (Cancels want) a w
-WaitedBy host backend want answer way ByExpired leased.Late a w = ⊥
-WaitedBy host backend want answer way ByTicks leased.Late a w = ⊥
+-- a want that a trip made at a host, to dial this backend for it, and how the pool answered
+pub record Asked : Type 0 where
+  pub host : ℕ
+  pub backend : Addr
+  pub want : ℕ
+  pub answer : Reply
 
-pub record WaitedStep {C : Type 0} (link : C → LinkView) (s : Span) (from to : GuardView) (host : ℕ) (backend : Addr) (want : ℕ) (answer : Reply) (result : Leased C) : Type 0 where
+abbrev pub asked : ℕ → Addr → ℕ → Reply → Asked
+asked host backend want answer = record { host = host; backend = backend; want = want; answer = answer }
+
+-- what was done behind it
+abbrev pub WaitedBy : {C : Type 0} → Asked → Way → Lateness → Leased C → At → Work → Type 0
+WaitedBy q way late (leased.Lease l) a w =
+    (l.want ≡ q.want) × Fits q.want q.answer (row_of a.caller l) way × Comes q.host q.backend q.want (row_of a.caller l) way a w
+WaitedBy q way late leased.Unreachable a w = IsPlace q.want q.answer × Fails q.host q.backend q.want a w
+WaitedBy q way late leased.Full a w = ⊥
+WaitedBy q way late leased.Cancelled a w = IsPlace q.want q.answer × Seq (Sees free) (Cancels q.want) a w
+WaitedBy q way ByDeadline leased.Late a w = IsPlace q.want q.answer × Seq (Sees free) (Cancels q.want) a w
+WaitedBy q way ByRests leased.Late a w = IsWaiting q.want q.answer × Seq (Sees a_million_rests) (Cancels q.want) a w
+WaitedBy q way ByExpired leased.Late a w = ⊥
+WaitedBy q way ByTicks leased.Late a w = ⊥
+
+pub record WaitedStep {C : Type 0} (link : C → LinkView) (s : Span) (from to : GuardView) (q : Asked) (result : Leased C) : Type 0 where
   pub way : Way
   pub late : Lateness
-  pub did : Stretch s from to (WaitedBy host backend want answer way late result)
+  pub did : Stretch s from to (WaitedBy q way late result)
   pub cause : LeaseCause from to s.new.moment late result
   pub left : Left link s.after result
 

@@ -5,7 +5,7 @@ ghost use Rattle.gw_pool.specs.declared.entry.Reply.{Reply};
 ghost use Rattle.gw_pool.specs.Keeps.{Comes, IsServed, is_early};
 ghost use Rattle.gw_pool.specs.Places.{is_granted};
 ghost use Rattle.gw_account.specs.Did.{span};
-ghost use Rattle.gw_transport.specs.Leasing.{DialedStep, EndStep, ExpiredStep, GaveUpStep, IsAsked, IsLeased, IsPending, IsRested, LeasedStep, LeftStep, TakenStep, WaitedStep, WantedStep};
+ghost use Rattle.gw_transport.specs.Leasing.{DialedStep, EndStep, ExpiredStep, GaveUpStep, IsAsked, IsLeased, IsPending, IsRested, LeasedStep, LeftStep, TakenStep, WaitedStep, WantedStep, asked};
 
 use gw_pool::{Ask, Lease, Leases, Put, Start, Ticket, Want};
 use gw_stream::{Guard, Sight};
@@ -155,7 +155,7 @@ fn wait<W: Wire, L: Leases<W::Conn>, G: Guard>(
     requires looked { (G.guard guard.old).last ≤ now }
     requires made { (answer : Reply) × IsAsked (L.lent leases.old) host ticket.want answer }
     ensures step { (answer : Reply) → IsAsked (L.lent leases.old) host ticket.want answer → WaitedStep W.Conn.link (span (W.wire wire.old) (W.wire wire.new) (L.lent leases.old) (L.lent leases.new))
-        (G.guard guard.old) (G.guard guard.new) host addr.now ticket.want answer result }
+        (G.guard guard.old) (G.guard guard.new) (asked host addr.now ticket.want answer) result }
     ensures leases { L.keeper leases.new ≡ L.keeper leases.old }
     ensures guard { G.keeper guard.new ≡ G.keeper guard.old }
 {
