@@ -1,5 +1,6 @@
 mod AnswerLemmas
 mod BackLemmas
+mod ClosingLemmas
 mod ComesLemmas
 mod DoneLemmas
 mod DoorLemmas

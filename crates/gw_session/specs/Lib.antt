@@ -1,11 +1,12 @@
 pub mod AnswerSteps
 pub mod BodySteps
+pub mod Closing
 pub mod Ending
 pub mod Hearing
-pub mod ReplySteps
 pub mod Passing
 pub mod Patience
 pub mod Replies
+pub mod ReplySteps
 pub mod Routing
 pub mod Seats
 pub mod Session
