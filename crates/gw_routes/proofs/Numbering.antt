@@ -180,7 +180,7 @@ full_routes d l e =
 record IsGood (t : TopText) : Type 0 where
   routes : IsFull t.routes
   least : 1 ≤ t.workers
-  most : t.workers ≤ 1
+  most : t.workers ≤ 64
 
 good_top : (d : Data) (t : TopText) → top_said d ≡ Ok t → IsGood t
 unfolding top_said

@@ -37,7 +37,7 @@ pub record TopText : Type 0 where
   pub routes : RouteList
 
 abbrev pub workers_bounds : Bounds
-workers_bounds = record { least = 1; most = 1; default = 1 }
+workers_bounds = record { least = 1; most = 64; default = 4 }
 
 abbrev pub idle_total_bounds : Bounds
 idle_total_bounds = record { least = 1; most = 1000; default = 100 }
@@ -163,5 +163,5 @@ pub record AreNumbered (table : Table) : Type 0 where
 -- how many workers a table has, and a pass of the pool for each
 pub record HasWorkers (table : Table) : Type 0 where
   pub least : 1 ≤ table.workers
-  pub most : table.workers ≤ 1
+  pub most : table.workers ≤ 64
   pub passes : table.limits.passes ≡ table.workers

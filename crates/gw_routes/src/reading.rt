@@ -12,8 +12,8 @@ use gw_mux::{Mux, MuxError};
 use gw_pool::Limits;
 use std::alloc::Global;
 
-/// The table that a route file says: a JSON object (RFC 8259) with the members `listen` (an address), `workers` (1, and
-/// 1 where it is missing), `idle_total` (1 to 1,000 idle connections; 100 where it is missing), `idle_per_host` (0 to
+/// The table that a route file says: a JSON object (RFC 8259) with the members `listen` (an address), `workers` (1 to
+/// 64; 4 where it is missing), `idle_total` (1 to 1,000 idle connections; 100 where it is missing), `idle_per_host` (0 to
 /// 1,000 idle connections of one backend; 2 where it is missing), `conns_per_host` (0 to 1,000 connections of one
 /// backend in use, idle and being dialed; 0, which is no limit, where it is missing), `idle_ms` (0 to 86,400,000
 /// milliseconds that a connection may be idle, of which 0 is no limit; 90,000 where it is missing), `client_ms` (1 to

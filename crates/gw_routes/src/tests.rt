@@ -111,7 +111,7 @@ fn faults_at_the_top(rt: HostRuntime) -> Result<(), Fail> {
         (",\"routes\":1", "G4"),
         (",\"routes\":{}", "G4"),
         (",\"routes\":[]", "G5"),
-        (",\"workers\":2,\"journal\":\"\"", "G5"),
+        (",\"workers\":65,\"journal\":\"\"", "G5"),
     ] {
         let file = listening(alloc, members)?;
         assert_eq!(rt;
@@ -131,7 +131,7 @@ fn whole_table(rt: HostRuntime) -> Result<(), Fail> {
     let Ok(table) = read_routes(alloc, file.as_str().as_bytes()) else {
         return Err("no table".into());
     };
-    assert_eq!(rt; table.workers, 1);
+    assert_eq!(rt; table.workers, 4);
     assert_eq!(rt; table.client_ms, 60_000);
     assert_eq!(rt; table.grace_ms, 10_000);
     let limits = table.limits;
@@ -140,7 +140,7 @@ fn whole_table(rt: HostRuntime) -> Result<(), Fail> {
     assert_eq!(rt; limits.conns_per_host, 0);
     assert_eq!(rt; limits.idle_ms, 90_000);
     assert_eq!(rt; limits.journal, 1_048_576);
-    assert_eq!(rt; limits.passes, 1);
+    assert_eq!(rt; limits.passes, 4);
     assert_eq!(rt; limits.per_pass, 1);
     assert_eq!(rt; limits.hosts, 2);
     let Found::Route(hit) = table.mux.find(b"GET", b"", b"/a") else {

@@ -38,10 +38,11 @@ fn read_listen(file: &Value) -> Result<Addr, RouteError>
     }
 }
 
+// No more than the gate and the contexts have seats.
 const WORKERS: Bounds = Bounds {
     least: 1,
-    most: 1,
-    default: 1,
+    most: 64,
+    default: 4,
 };
 
 // A day at most.

@@ -1,6 +1,10 @@
-mod HouseLemmas
+mod CloseLemmas
+mod CrewLemmas
 mod InspectLemmas
+mod JoinLemmas
+mod LawLemmas
 mod LoadLemmas
-mod RunLemmas
+mod ServingLemmas
+mod SetupLemmas
 mod TopLemmas
 mod WorkLemmas

@@ -1,35 +1,26 @@
 -- The top call: its lines, its refusals, and the run that it reports, over plain variables.
-use Rattle.std.proofs.Common.{◌≡◌, ◌≤◌, ℕ, inl, inr, true, false, List, [], ◌∷◌, ◌++◌, map, Option, Some, None, Ok, Err, refl, ap, sym, ◌∙◌, subst, arith}
-use Rattle.std.specs.Prelude.{if◌then◌else◌, String}
+use Rattle.std.proofs.Common.{◌≡◌, ℕ, inl, inr, true, false, List, [], ◌++◌, length, All, Bool, Option, Some, Ok, Err, refl, ap, sym, ◌∙◌, subst, arith}
+use Rattle.std.specs.Prelude.{String}
 use Rattle.std.specs.declared.alloc.Global.{Global}
 use Rattle.gw_wire.specs.declared.traits.Printed.{Printed}
 use Rattle.gw_wire.specs.declared.traits.Printed.TheVariants as printing
-use Rattle.gw_wire.specs.declared.values.Act.{Act}
-use Rattle.gw_wire.specs.declared.values.Act.TheVariants.{Closed}
 use Rattle.gw_wire.specs.declared.values.Addr.{Addr}
 use Rattle.gw_wire.specs.Acts.{Logs}
 use Rattle.gw_wire.specs.Causes.{Rose}
-use Rattle.gw_wire.specs.Stretch.{Told, Acts}
-use Rattle.gw_wire.specs.Moments.{Rises}
-use Rattle.gw_wire.specs.Wire.{WireView, IsFresh, Later, HasNoActs}
-use Rattle.gw_wire.specs.World.{WorldView, WorldLater, PrintStep, IsGiven, ListensNow, ListensAt}
-use Rattle.gw_wire.proofs.Facts.{Logs-none, Logs-then, rises_from, rises_to}
-use Rattle.gw_pool.specs.declared.entry.Entry.{Entry}
-use Rattle.gw_pool.specs.declared.limits.Limits.{Limits}
-use Rattle.gw_account.specs.Did.{Wired, span}
-use Rattle.gw_account.specs.Work.{At, Work, at_of}
-use Rattle.gw_pool.specs.History.{IsLegal, AreBelow, mine}
-use Rattle.gw_pool.specs.Moments.{entry_moments}
-use Rattle.gw_pool.specs.Idle.{idle_links}
-use Rattle.gw_pool.specs.Lent.{Lent}
+use Rattle.gw_wire.specs.Wire.{WireView}
+use Rattle.gw_wire.specs.World.{WorldView, WorldLater, PrintStep, ListensNow, ListensAt}
+use Rattle.gw_wire.proofs.Facts.{Logs-none, Logs-then}
 use Rattle.gw_routes.specs.declared.table.Table.{Table}
 use Rattle.gw_top.specs.declared.run.Report.{Report}
 use Rattle.gw_top.specs.declared.worker.Worker.{Worker}
 use Rattle.gw_top.specs.Command.{IsServe, name_of}
 use Rattle.gw_top.specs.Lines.{unheard_line, memory_line, accept_line}
 use Rattle.gw_top.specs.Load.{Prints, SaysTable, NoTable, Loads}
-use Rattle.gw_top.specs.Run.{IsPaid, LogIs, Run, WorkedAlone, Works, first_at}
-use Rattle.gw_top.specs.Status.{IsEmpty, Refuses, RefusesOr7, Finished, Serves, Ends, Ran}
+use Rattle.gw_top.specs.declared.run.Served.{Served}
+use Rattle.gw_top.specs.Run.{Run}
+use Rattle.gw_top.specs.Serving.{IsServed}
+use Rattle.gw_top.specs.Status.{IsEmpty, Refuses, RefusesOr7, Finished, Serves, Ends, Ran, any_failed, line_of, status_of}
+use Rattle.gw_top.proofs.ServingLemmas.{later_count, later_groups}
 
 pub world_then : (a b c : WorldView) → WorldLater a b → WorldLater b c → WorldLater a c
 world_then a b c p q = record {
@@ -72,122 +63,60 @@ refuses_with old mid new status front line report l p r = record {
   printed = prints_then old mid new front line l r.later p r.printed;
 }
 
-map_map : {A B C : Type 0} (f : B → C) (g : A → B) (l : List A) → map (λ x. f (g x)) l ≡ map f (map g l)
-map_map f g [] = refl
-map_map f g (x ∷ xs) = ap (λ l. f (g x) ∷ l) (map_map f g xs)
-
-pub closes_of : {C : Type 0} (number : C → ℕ) (idle : List C) (links : List ℕ) → map number idle ≡ links → map (λ c. Closed (number c)) idle ≡ map Closed links
-closes_of number idle links e = map_map Closed number idle ∙ ap (λ l. map Closed l) e
-
--- a log that began without an act
-logged : (first last : Option (List Act)) (acts : List Act) → HasNoActs first → Logs first last acts → LogIs last acts
-logged first None acts n l = tt
-logged None (Some log) acts n l = absurd l
-logged (Some before) (Some log) acts n l = l ∙ ap (λ x. x ++ acts) n
-
-closed_by : (old new : Option (List Act)) (acts : List Act) → Told old new (Acts acts) → Logs old new acts
-closed_by old None acts t = tt
-closed_by None (Some new) acts t = absurd t.1
-closed_by (Some old) (Some new) acts t = t.1 ∙ ap (λ x. old ++ x) t.2
-
--- a wire that began with nothing pays what was owed since
-paid : (first ended last : WireView) (w : Work) → IsFresh first → Wired first ended w → Later ended last → IsPaid last w.bill
-paid first ended last w fresh wired behind = record {
-  dials = (let x = wired.dials in let y = behind.dial_faults in let z = fresh.dial_faults in omega arith);
-  millis = (let x = wired.millis in let y = behind.moment in let z = fresh.moment in let u = wired.later.first in let v = behind.first in omega arith);
-  ticks = (let x = wired.ticks in let y = behind.ticks in let z = fresh.ticks in omega arith);
-  rests = (let x = wired.rests in let y = behind.rests in let z = fresh.rests in omega arith);
-  said = rises_from last.first first.moment last.moment w.bill.said (let z = fresh.moment in let u = wired.later.first in let v = behind.first in omega arith)
-      (rises_to first.moment ended.moment last.moment w.bill.said wired.said behind.moment);
-}
-
 -- the run behind a report
-pub served : {W : Type 0} (wire : W → WireView) (old mid new : WorldView) (table : Table) (first ended : WireView) (before after : Lent) (journal : List Entry) (closes : List Act)
-    (worker : Worker W) (report : Report W)
-    → before.limits ≡ table.limits → before.seen ≡ [] → before.mine ≡ [] → before.number ≡ 0
-    → WorldLater old mid → Logs old.printed mid.printed [] → ListensNow mid.listened table.listen table.workers → IsGiven old first
-    → WorkedAlone (span first ended before after) table worker.entered worker.unkept worker.accept_failed
-    → (worker.accept_failed ≡ true → Rose first.accept_faults ended.accept_faults) → worker.number ≡ 0
-    → journal ≡ after.seen → journal ≡ after.mine → IsLegal after.limits journal → AreBelow after.limits.passes journal
-    → Later ended (wire worker.wire) → Told ended.log (wire worker.wire).log (Acts closes) → closes ≡ map Closed (idle_links after.limits after.seen)
-    → Finished mid new table journal worker report → Serves wire old new table report
-served wire old mid new table first ended before after journal closes worker report lim none mine_none zero later quiet heard given w failed number j own legal callers behind told links f =
-    let last = wire worker.wire in
-    let work : Work = w.done.work in
-    let wired = w.done.doing.wired in
-    let pooled = w.done.doing.pooled in
-    let limits : after.limits ≡ table.limits = pooled.limits ∙ lim in
-    let all : journal ≡ work.made = j ∙ pooled.seen ∙ ap (λ (l : List Entry). l ++ work.made) none in
-    let alone : journal ≡ mine work.made before.number = own ∙ pooled.mine ∙ ap (λ (l : List Entry). l ++ mine work.made before.number) mine_none in
-    let same : closes ≡ map Closed (idle_links table.limits journal) =
-    links ∙ ap (λ (l : Limits). map Closed (idle_links l after.seen)) limits ∙ ap (λ (l : List Entry). map Closed (idle_links table.limits l)) (sym j) in
-    let shut : Logs ended.log last.log (map Closed (idle_links table.limits journal)) =
-    subst (λ (l : List Act). Logs ended.log last.log l) same (closed_by ended.log last.log closes told) in
-    let start : last.first ≤ first.moment = (let x = given.fresh.moment in let y = wired.later.first in let z = behind.first in omega arith) in
-    let at : at_of first before ≡ first_at table first.groups = λ i. record { limits = lim i; caller = zero i; groups = first.groups; history = none i } in
-    let groups : last.groups ≡ first.groups = behind.groups ∙ wired.later.groups in
-    let does : Works table w.visits w.last (first_at table last.groups) work =
-    subst (λ (g : Addr → List Addr). Works table w.visits w.last (first_at table g) work) (sym groups) (subst (λ (a : At). Works table w.visits w.last a work) at w.done.does) in
+pub served : {W : Type 0} (wire : W → WireView) (old mid new : WorldView) (table : Table) (before : List (Worker W)) (result : Served W) (report : Report W)
+    → WorldLater old mid → Logs old.printed mid.printed [] → ListensNow mid.listened table.listen table.workers → length before ≡ table.workers
+    → All (λ (w : Worker W). (address : Addr) → (wire w.wire).groups address ≡ old.groups address) before
+    → IsServed wire table before result → Finished mid new table result report → Serves wire old new table report
+served {W} wire old mid new table before result report later quiet heard count groups s f =
+    let workers : report.workers.items ≡ result.workers.items = ap (λ v. v.items) f.workers in
+    let journal : report.journal.items ≡ result.journal.items = ap (λ v. v.items) f.journal in
     record {
       later = world_then old mid new later f.later;
       table_is = f.table_is;
       listened = subst (λ (l : Option (Option ListensAt)). ListensNow l table.listen table.workers) (sym f.listened) heard;
-      worker = worker;
-      only = f.only;
-      rightly = λ e. (let x = failed e in let y = behind.accept_faults in let z = given.fresh.accept_faults in omega arith);
-      status = f.status;
-      printed = prints_quiet old mid new (if worker.accept_failed then _ else _) later f.later quiet f.printed;
-      run = record {
-        visits = w.visits;
-        last = w.last;
-        work = work;
-        legal = rw f.journal_is (rw (← limits) legal);
-        callers = rw f.journal_is (rw (← limits) callers);
-        all = f.journal_is ∙ all;
-        timed = rw f.journal_is
-            (subst (λ (l : List Entry). Rises last.first (entry_moments l) last.moment) (sym alone)
-            (rises_from last.first first.moment last.moment _ start (rises_to first.moment ended.moment last.moment _ w.done.doing.timed behind.moment)));
-        groups_are = λ address. ap (λ (g : Addr → List Addr). g address) groups ∙ given.groups address;
-        does = does;
-        log = rw f.journal_is (logged first.log last.log (work.acts ++ map Closed (idle_links table.limits journal)) given.fresh.log
-            (Logs-then first.log ended.log last.log work.acts (map Closed (idle_links table.limits journal)) wired.log shut));
-        paid = paid first ended last work given.fresh wired behind;
-        number = number;
-        entered = w.entered_is;
-        unkept = w.unkept_is;
-        failed = w.failed_is;
-        order = w.order;
-        there = w.there;
-        stopped = w.stopped;
-        cancelled = λ e. ((w.cancelled e).0, (let x = (w.cancelled e).1 in let y = behind.moment in let z = start in omega arith));
-      };
+      status = rw workers f.status;
+      printed = rw workers (prints_quiet old mid new (line_of (any_failed result.workers.items)) later f.later quiet f.printed);
+      run = rw (workers, journal) (record {
+        parts = s.parts;
+        legal = s.legal;
+        callers = s.callers;
+        count = later_count wire before result.workers.items s.later ∙ count;
+        each = s.each;
+        groups_are = later_groups wire old.groups before result.workers.items s.later groups;
+        stops = s.stops;
+      });
     }
 
--- a worker's end is reported
-pub ended_well : {W : Type 0} (world : WorldView) (table : Table) (journal : List Entry) (worker : Worker W) (report : Report W) → worker.accept_failed ≡ false
-    → report.status ≡ 0 → report.table ≡ Some table → report.journal.items ≡ journal → report.workers.items ≡ worker ∷ [] → Finished world world table journal worker report
-ended_well world table journal worker report e s t j w = record {
-  later = record { file_faults = omega arith; listen_faults = omega arith; print_faults = omega arith; groups = refl; files = refl };
-  listened = refl;
-  table_is = t;
-  journal_is = j;
-  only = w;
-  status = rw e s;
-  printed = rw e (inr (Logs-none world.printed));
-}
+-- what workers that ended are reported as
+pub ended_well : {W : Type 0} (world : WorldView) (table : Table) (result : Served W) (report : Report W) (failed : Bool) → failed ≡ any_failed result.workers.items → failed ≡ false
+    → report.status ≡ 0 → report.table ≡ Some table → report.journal ≡ result.journal → report.workers ≡ result.workers → Finished world world table result report
+ended_well world table result report failed any e s t j w =
+    let good : any_failed result.workers.items ≡ false = sym any ∙ e in
+    record {
+      later = record { file_faults = omega arith; listen_faults = omega arith; print_faults = omega arith; groups = refl; files = refl };
+      listened = refl;
+      table_is = t;
+      journal = j;
+      workers = w;
+      status = s ∙ sym (ap status_of good);
+      printed = subst (λ (b : Bool). Prints world world (line_of b)) (sym good) (inr (Logs-none world.printed));
+    }
 
-pub ended_badly : {W : Type 0} (old new : WorldView) (table : Table) (journal : List Entry) (worker : Worker W) (report : Report W) (result : Printed) → worker.accept_failed ≡ true
-    → PrintStep old new accept_line result
-    → report.status ≡ 8 → report.table ≡ Some table → report.journal.items ≡ journal → report.workers.items ≡ worker ∷ [] → Finished old new table journal worker report
-ended_badly old new table journal worker report result e p s t j w = record {
-  later = p.later;
-  listened = p.listened;
-  table_is = t;
-  journal_is = j;
-  only = w;
-  status = rw e s;
-  printed = rw e (printed_by old new accept_line result p);
-}
+pub ended_badly : {W : Type 0} (old new : WorldView) (table : Table) (result : Served W) (report : Report W) (failed : Bool) (line : Printed) → failed ≡ any_failed result.workers.items → failed ≡ true
+    → PrintStep old new accept_line line
+    → report.status ≡ 8 → report.table ≡ Some table → report.journal ≡ result.journal → report.workers ≡ result.workers → Finished old new table result report
+ended_badly old new table result report failed line any e p s t j w =
+    let bad : any_failed result.workers.items ≡ true = sym any ∙ e in
+    record {
+      later = p.later;
+      listened = p.listened;
+      table_is = t;
+      journal = j;
+      workers = w;
+      status = s ∙ sym (ap status_of bad);
+      printed = subst (λ (b : Bool). Prints old new (line_of b)) (sym bad) (printed_by old new accept_line line p);
+    }
 
 -- it could not be listened on the address
 pub unheard_ends : {W : Type 0} (wire : W → WireView) (old mid new : WorldView) (table : Table) (report : Report W) → WorldLater old mid → Logs old.printed mid.printed []
@@ -200,16 +129,13 @@ unheard_ends wire old mid new table report l p r (inr x) = inr (inr (refuses_beh
 serves_behind : {W : Type 0} (wire : W → WireView) (old mid new : WorldView) (table : Table) (report : Report W) → WorldLater old mid → Logs old.printed mid.printed []
     → Serves wire mid new table report → Serves wire old new table report
 serves_behind wire old mid new table report l p s =
-    let P : (Addr → List Addr) → Type 0 = λ groups. Run wire groups table report.journal.items s.worker in
+    let P : (Addr → List Addr) → Type 0 = λ groups. Run wire groups table report.journal.items report.workers.items in
     record {
       later = world_then old mid new l s.later;
       table_is = s.table_is;
       listened = s.listened;
-      worker = s.worker;
-      only = s.only;
-      rightly = s.rightly;
       status = s.status;
-      printed = prints_quiet old mid new (if s.worker.accept_failed then accept_line else []) l s.later p s.printed;
+      printed = prints_quiet old mid new (line_of (any_failed report.workers.items)) l s.later p s.printed;
       run = subst P l.groups s.run;
     }
 

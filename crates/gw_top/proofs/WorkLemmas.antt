@@ -35,7 +35,8 @@ use Rattle.gw_session.specs.Session.{Behind, Serves, SessionStep, begun_in, canc
 use Rattle.gw_session.specs.Stand.{Done, EndCause, Spot, WhyCause, is_last}
 use Rattle.gw_session.specs.Turn.{Deed, Turn, Turned, is_cancelled, stops, turn_next, unread_reason}
 use Rattle.gw_session.proofs.Facts.{after_idle, clock_idle, done_map, done_then, done_went, either_which, or_assoc, or_false, rose_before, rose_behind, seats_looked, seats_same, seats_since, seats_then, then_idle}
-use Rattle.gw_top.specs.Run.{AtEnd, AtFailure, AtGate, Last, Visit, Visited, Visits, Worked, counted, in_order, is_failure, is_gate, is_gate_end, is_gate_reason, last_acts, own_node, ends_there, saw_shut, turns_of, unkept, unkept_in}
+use Rattle.gw_top.specs.declared.worker.Worker.{Worker}
+use Rattle.gw_top.specs.Run.{AtEnd, AtFailure, AtGate, Last, Visit, Visited, Visits, Worked, counted, in_order, is_failure, is_gate, is_gate_end, is_gate_reason, last_acts, ends_there, saw_shut, turns_of, unkept, unkept_in}
 
 -- ---- a stop ends its session
 
@@ -117,13 +118,13 @@ unkept_push : (visits : List Visit) (v : Visit) → unkept_in (visits ++ v ∷ [
 unkept_push visits v = sum_by-append (λ (x : Visit). unkept x.ended) visits (v ∷ []) ∙ ap (λ n. unkept_in visits + n) (sum_by-cons (λ (x : Visit). unkept x.ended) v [] ∙ (omega arith))
 
 -- one client more
-visits_push : (table : Table) (visits : List Visit) (v : Visit) (a : At) (w : Work) → Seq (Visits table visits) (Visited table v) a w → Visits table (visits ++ v ∷ []) a w
-visits_push table [] v a w s = (w, nothing, sym (and_nothing w), after_idle (Visited table v) a w s, refl)
-visits_push table (x ∷ xs) v a w s =
+visits_push : (table : Table) (own : ℕ) (visits : List Visit) (v : Visit) (a : At) (w : Work) → Seq (Visits table own visits) (Visited table own v) a w → Visits table own (visits ++ v ∷ []) a w
+visits_push table own [] v a w s = (w, nothing, sym (and_nothing w), after_idle (Visited table own v) a w s, refl)
+visits_push table own (x ∷ xs) v a w s =
     let t = s.3 in
-    let rest : Seq (Visits table xs) (Visited table v) (behind a t.0) (and t.1 s.1) =
-    (t.1, s.1, refl, t.4, subst (λ (b : At). Visited table v b s.1) (ap (λ z. behind a z) t.2 ∙ sym (behind_behind a t.0 t.1)) s.4) in
-    (t.0, and t.1 s.1, s.2 ∙ ap (λ z. and z s.1) t.2 ∙ and_and t.0 t.1 s.1, t.3, visits_push table xs v (behind a t.0) (and t.1 s.1) rest)
+    let rest : Seq (Visits table own xs) (Visited table own v) (behind a t.0) (and t.1 s.1) =
+    (t.1, s.1, refl, t.4, subst (λ (b : At). Visited table own v b s.1) (ap (λ z. behind a z) t.2 ∙ sym (behind_behind a t.0 t.1)) s.4) in
+    (t.0, and t.1 s.1, s.2 ∙ ap (λ z. and z s.1) t.2 ∙ and_and t.0 t.1 s.1, t.3, visits_push table own xs v (behind a t.0) (and t.1 s.1) rest)
 
 -- ---- where no client saw the gate shut
 
@@ -152,28 +153,28 @@ there_push (x ∷ next ∷ later) v none =
 -- ---- a worker on its way
 
 -- these clients were served
-pub record Serving (x y : WireView) (b c : Lent) (old new : Seats) (table : Table) (entered unkept : ℕ) : Type 0 where
+pub record Serving (x y : WireView) (b c : Lent) (old new : Seats) (table : Table) (own : ℕ) (entered unkept : ℕ) : Type 0 where
   pub visits : List Visit
-  pub done : Done (span x y b c) (Visits table visits)
+  pub done : Done (span x y b c) (Visits table own visits)
   pub entered_is : entered ≡ counted (begun_in (turns_of visits))
   pub unkept_is : unkept ≡ counted (unkept_in visits)
   pub order : in_order false (turns_of visits) ≡ true
-  pub seats : SeatsGo old new own_node table.grace_ms x.moment y.moment (stops_in (turns_of visits))
+  pub seats : SeatsGo old new own table.grace_ms x.moment y.moment (stops_in (turns_of visits))
   pub held : new.gate.view.held ≡ old.gate.view.held
   pub there : ends_there visits AtGate ≡ true
   pub seen : list_any saw_shut visits ≡ true → new.gate.view.seen_shut ≡ true
-  pub cancelled : cancelled_in (turns_of visits) ≡ true → Rose (times_found own_node old.words.view.ended) (times_found own_node new.words.view.ended)
+  pub cancelled : cancelled_in (turns_of visits) ≡ true → Rose (times_found own old.words.view.ended) (times_found own new.words.view.ended)
   pub rested : IsRested c
 
-pub serving_first : (x : WireView) (b : Lent) (s : Seats) (table : Table) (entered unkept : ℕ) → x.aged ≡ false → IsRested b → entered ≡ 0 → unkept ≡ 0 → Serving x x b b s s table entered unkept
-serving_first x b s table entered unkept fresh rested nobody none = record {
+pub serving_first : (x : WireView) (b : Lent) (s : Seats) (table : Table) (own : ℕ) (entered unkept : ℕ) → x.aged ≡ false → IsRested b → entered ≡ 0 → unkept ≡ 0 → Serving x x b b s s table own entered unkept
+serving_first x b s table own entered unkept fresh rested nobody none = record {
   visits = [];
   done = done_went b (went_nothing x fresh);
   entered_is = nobody;
   unkept_is = none;
   order = refl;
   there = refl;
-  seats = seats_same s own_node table.grace_ms x.moment x.moment;
+  seats = seats_same s own table.grace_ms x.moment x.moment;
   held = refl;
   seen = λ e. absurd (let bad : false ≡ true = e in cc);
   cancelled = λ e. absurd (let bad : false ≡ true = e in cc);
@@ -181,44 +182,44 @@ serving_first x b s table entered unkept fresh rested nobody none = record {
 }
 
 -- the clock was read, and the gate was looked at
-pub serving_looked : (x y z : WireView) (b c : Lent) (r s t : Seats) (table : Table) (entered unkept now : ℕ) (shut : Bool) → Serving x y b c r s table entered unkept → NowStep y z now
-    → NotesShut s t now shut → Serving x z b c r t table entered unkept
-serving_looked x y z b c r s t table entered unkept now shut g n look =
+pub serving_looked : (x y z : WireView) (b c : Lent) (r s t : Seats) (table : Table) (own : ℕ) (entered unkept now : ℕ) (shut : Bool) → Serving x y b c r s table own entered unkept → NowStep y z now
+    → NotesShut s t now shut → Serving x z b c r t table own entered unkept
+serving_looked x y z b c r s t table own entered unkept now shut g n look =
     let st = stops_in (turns_of g.visits) in
-    let step : SeatsGo s t own_node table.grace_ms x.moment z.moment false =
-    seats_looked s t own_node table.grace_ms x.moment now z.moment shut
+    let step : SeatsGo s t own table.grace_ms x.moment z.moment false =
+    seats_looked s t own table.grace_ms x.moment now z.moment shut
     (let l = g.done.doing.wired.later.moment in let m = n.later.moment in let k = n.given in omega arith) (let k = n.given in omega arith) look in
     record {
       visits = g.visits;
-      done = done_map (done_then g.done (done_went c (clock_idle y z now n))) (then_idle (Visits table g.visits));
+      done = done_map (done_then g.done (done_went c (clock_idle y z now n))) (then_idle (Visits table own g.visits));
       entered_is = g.entered_is;
       unkept_is = g.unkept_is;
       order = g.order;
       there = g.there;
-      seats = subst (λ (v : Bool). SeatsGo r t own_node table.grace_ms x.moment z.moment v) (or_false st)
-          (seats_then r s t own_node table.grace_ms x.moment y.moment z.moment st false n.later.moment g.seats step);
+      seats = subst (λ (v : Bool). SeatsGo r t own table.grace_ms x.moment z.moment v) (or_false st)
+          (seats_then r s t own table.grace_ms x.moment y.moment z.moment st false n.later.moment g.seats step);
       held = look.held ∙ g.held;
       seen = λ e. step.seen_shut (g.seen e);
-      cancelled = λ e. rose_behind (times_found own_node r.words.view.ended) (times_found own_node s.words.view.ended) (times_found own_node t.words.view.ended) step.found (g.cancelled e);
+      cancelled = λ e. rose_behind (times_found own r.words.view.ended) (times_found own s.words.view.ended) (times_found own t.words.view.ended) step.found (g.cancelled e);
       rested = g.rested;
     }
 
 -- nobody came
-pub serving_on : {C : Type 0} (link : C → LinkView) (x y z : WireView) (b c : Lent) (r s : Seats) (table : Table) (entered unkept : ℕ) → Serving x y b c r s table entered unkept
-    → AcceptStep link y z accept.Tick → Serving x z b c r s table entered unkept
-serving_on link x y z b c r s table entered unkept g k =
+pub serving_on : {C : Type 0} (link : C → LinkView) (x y z : WireView) (b c : Lent) (r s : Seats) (table : Table) (own : ℕ) (entered unkept : ℕ) → Serving x y b c r s table own entered unkept
+    → AcceptStep link y z accept.Tick → Serving x z b c r s table own entered unkept
+serving_on link x y z b c r s table own entered unkept g k =
     let st = stops_in (turns_of g.visits) in
     let still : Went y z Idle =
     went_map (went_call y z [] k.later (k.aged ∙ g.done.doing.fresh) k.log) (λ a w o. only_is free (λ acts. acts ≡ []) a w o ∙ ap (λ l. record { acts = l; made = []; bill = free }) o.2) in
     record {
       visits = g.visits;
-      done = done_map (done_then g.done (done_went c still)) (then_idle (Visits table g.visits));
+      done = done_map (done_then g.done (done_went c still)) (then_idle (Visits table own g.visits));
       entered_is = g.entered_is;
       unkept_is = g.unkept_is;
       order = g.order;
       there = g.there;
-      seats = subst (λ (v : Bool). SeatsGo r s own_node table.grace_ms x.moment z.moment v) (or_false st)
-          (seats_then r s s own_node table.grace_ms x.moment y.moment z.moment st false k.later.moment g.seats (seats_same s own_node table.grace_ms x.moment z.moment));
+      seats = subst (λ (v : Bool). SeatsGo r s own table.grace_ms x.moment z.moment v) (or_false st)
+          (seats_then r s s own table.grace_ms x.moment y.moment z.moment st false k.later.moment g.seats (seats_same s own table.grace_ms x.moment z.moment));
       held = g.held;
       seen = g.seen;
       cancelled = g.cancelled;
@@ -248,38 +249,38 @@ rose_by : (p q : Bool) (a b c : ℕ) → a ≤ b → b ≤ c → (p ≡ true →
 rose_by p q a b c le more f g e = elim (either_which p q e) [ inl l ↦ rose_behind a b c more (f l) | inr r ↦ rose_before a b c le (g r) ]
 
 -- a client came and was served
-pub serving_more : {C : Type 0} (link : C → LinkView) (x y z w : WireView) (b c d : Lent) (r s t : Seats) (table : Table) (entered unkept_before more_entered more_unkept own : ℕ) (client : C) (peer : List ℕ)
-    (result : Served) (begun lost : ℕ) → own ≡ own_node → s.gate.view.seen_shut ≡ false → Serving x y b c r s table entered unkept_before → AcceptStep link y z (accept.Conn client peer)
-    → SessionStep (span z w c d) s t own (link client) peer table result
+pub serving_more : {C : Type 0} (link : C → LinkView) (x y z w : WireView) (b c d : Lent) (r s t : Seats) (table : Table) (own : ℕ) (entered unkept_before more_entered more_unkept mid : ℕ) (client : C) (peer : List ℕ)
+    (result : Served) (begun lost : ℕ) → mid ≡ own → s.gate.view.seen_shut ≡ false → Serving x y b c r s table own entered unkept_before → AcceptStep link y z (accept.Conn client peer)
+    → SessionStep (span z w c d) s t mid (link client) peer table result
     → begun ≡ result.begun → lost ≡ unkept result.ended → more_entered ≡ min (entered + begun) (2 ^ 64 - 1) → more_unkept ≡ min (unkept_before + lost) (2 ^ 64 - 1)
-    → Serving x w b d r t table more_entered more_unkept
-serving_more {C} link x y z w b c d r s t table entered unkept_before more_entered more_unkept own client peer result begun lost node unseen g k m begun_is lost_is more more_lost =
-    let step : SessionStep (span z w c d) s t own_node (link client) peer table result = subst (λ (n : ℕ). SessionStep (span z w c d) s t n (link client) peer table result) node m in
+    → Serving x w b d r t table own more_entered more_unkept
+serving_more {C} link x y z w b c d r s t table own entered unkept_before more_entered more_unkept mid client peer result begun lost node unseen g k m begun_is lost_is more more_lost =
+    let step : SessionStep (span z w c d) s t own (link client) peer table result = subst (λ (n : ℕ). SessionStep (span z w c d) s t n (link client) peer table result) node m in
     let v : Visit = record { client = (link client).number; peer = peer; ended = result.ended; turns = step.turns } in
     let came : Went y z (Only free (λ acts. acts ≡ Accepted (link client).number peer ∷ [])) = went_call y z (Accepted (link client).number peer ∷ []) k.later (k.aged ∙ g.done.doing.fresh) k.log in
-    let visited : Done (span y w c d) (Visited table v) = done_then (done_went c came) step.done in
+    let visited : Done (span y w c d) (Visited table own v) = done_then (done_went c came) step.done in
     let all : turns_of (g.visits ++ v ∷ []) ≡ turns_of g.visits ++ step.turns = turns_push g.visits v in
     let st = stops_in (turns_of g.visits) in
     let later = visited.doing.wired.later.moment in
     let none : st ≡ false = unseen_none st s.gate.view.seen_shut g.seats.told unseen in
-    let seats : SeatsGo s t own_node table.grace_ms x.moment w.moment (stops_in step.turns) =
-    seats_since s t own_node table.grace_ms z.moment x.moment w.moment (stops_in step.turns) (let l = g.done.doing.wired.later.moment in let n = k.later.moment in omega arith) step.goes.seats in
+    let seats : SeatsGo s t own table.grace_ms x.moment w.moment (stops_in step.turns) =
+    seats_since s t own table.grace_ms z.moment x.moment w.moment (stops_in step.turns) (let l = g.done.doing.wired.later.moment in let n = k.later.moment in omega arith) step.goes.seats in
     record {
       visits = g.visits ++ v ∷ [];
-      done = done_map (done_then g.done visited) (visits_push table g.visits v);
+      done = done_map (done_then g.done visited) (visits_push table own g.visits v);
       entered_is = rw all (let e = g.entered_is in let n = more in let q = begun_is in let f = step.begun in let h = begun_append (turns_of g.visits) step.turns in omega arith);
       unkept_is = (let e = g.unkept_is in let n = more_lost in let q = lost_is in let h = unkept_push g.visits v in omega arith);
       there = there_push g.visits v (unseen_none (list_any saw_shut g.visits) s.gate.view.seen_shut g.seen unseen);
       order = rw all (order_more (turns_of g.visits) step.turns g.order none (serves_in_order _ 1 [] result.ended step.turns _ _ step.done.does.3));
       seats = rw (all, any_append stops (turns_of g.visits) step.turns)
-          (seats_then r s t own_node table.grace_ms x.moment y.moment w.moment st (stops_in step.turns) later g.seats seats);
+          (seats_then r s t own table.grace_ms x.moment y.moment w.moment st (stops_in step.turns) later g.seats seats);
       held = step.goes.held ∙ g.held;
       seen = rw (any_push saw_shut g.visits v)
           (seen_by (list_any saw_shut g.visits) (saw_shut v) (s.gate.view.seen_shut ≡ true) (t.gate.view.seen_shut ≡ true) seats.seen_shut g.seen
           (seen_by (is_gate_end result.ended) (stops_in step.turns) (t.gate.view.seen_shut ≡ true) (t.gate.view.seen_shut ≡ true) (λ e. e)
           (λ e. end_seen (link client) step.closing t.gate.view.seen_shut result.ended e step.goes.cause) seats.told));
       cancelled = rw (all, any_append is_cancelled (turns_of g.visits) step.turns)
-          (rose_by (cancelled_in (turns_of g.visits)) (cancelled_in step.turns) (times_found own_node r.words.view.ended) (times_found own_node s.words.view.ended) (times_found own_node t.words.view.ended)
+          (rose_by (cancelled_in (turns_of g.visits)) (cancelled_in step.turns) (times_found own r.words.view.ended) (times_found own s.words.view.ended) (times_found own t.words.view.ended)
           g.seats.found seats.found g.cancelled step.cancelled);
       rested = step.rested;
     }
@@ -287,52 +288,48 @@ serving_more {C} link x y z w b c d r s t table entered unkept_before more_enter
 -- ---- its end
 
 -- behind its clients just these acts were done
-worked : (x y z : WireView) (b c : Lent) (r s : Seats) (table : Table) (entered unkept : ℕ) (failed : Bool) (last : Last) (g : Serving x y b c r s table entered unkept)
-    → ends_there g.visits last ≡ true → Went y z (Only free (λ acts. acts ≡ last_acts last)) → failed ≡ is_failure last → (is_gate last ≡ true → s.gate.view.seen_shut ≡ true)
-    → Worked (span x z b c) r s table entered unkept failed
-worked x y z b c r s table entered unkept failed last g there acts is shut =
+worked : {W : Type 0} (worker : Worker W) (x y z : WireView) (b c : Lent) (r s : Seats) (table : Table) (own : ℕ) (last : Last) (g : Serving x y b c r s table own worker.entered worker.unkept)
+    → ends_there g.visits last ≡ true → Went y z (Only free (λ acts. acts ≡ last_acts last)) → worker.accept_failed ≡ is_failure last → (is_gate last ≡ true → s.gate.view.seen_shut ≡ true)
+    → Worked (span x z b c) r s table own worker
+worked worker x y z b c r s table own last g there acts is shut =
     let st = stops_in (turns_of g.visits) in
     record {
-      visits = g.visits;
-      last = last;
+      part = record { visits = g.visits; last = last };
       done = done_then g.done (done_went c acts);
-      entered_is = g.entered_is;
-      unkept_is = g.unkept_is;
-      failed_is = is;
-      order = g.order;
-      there = there;
-      seats = subst (λ (v : Bool). SeatsGo r s own_node table.grace_ms x.moment z.moment v) (or_false st)
-          (seats_then r s s own_node table.grace_ms x.moment y.moment z.moment st false acts.wired.later.moment g.seats (seats_same s own_node table.grace_ms x.moment z.moment));
+      counts = record { entered = g.entered_is; unkept = g.unkept_is; failed = is };
+      ordered = record { order = g.order; there = there };
+      seats = subst (λ (v : Bool). SeatsGo r s own table.grace_ms x.moment z.moment v) (or_false st)
+          (seats_then r s s own table.grace_ms x.moment y.moment z.moment st false acts.wired.later.moment g.seats (seats_same s own table.grace_ms x.moment z.moment));
       held = g.held;
       seen = seen_by (list_any saw_shut g.visits) (is_gate last) (s.gate.view.seen_shut ≡ true) (s.gate.view.seen_shut ≡ true) (λ e. e) g.seen shut;
       cancelled = g.cancelled;
       rested = g.rested;
     }
 
-pub worked_till_end : {C : Type 0} (link : C → LinkView) (x y z : WireView) (b c : Lent) (r s : Seats) (table : Table) (entered unkept : ℕ) (failed : Bool) → failed ≡ false → s.gate.view.seen_shut ≡ false
-    → Serving x y b c r s table entered unkept → AcceptStep link y z accept.Ended → Worked (span x z b c) r s table entered unkept failed
-worked_till_end link x y z b c r s table entered unkept failed is unseen g k =
-    worked x y z b c r s table entered unkept failed AtEnd g (none_there g.visits AtEnd (unseen_none (list_any saw_shut g.visits) s.gate.view.seen_shut g.seen unseen)) (went_call y z (ListenerEnded ∷ []) k.later (k.aged ∙ g.done.doing.fresh) k.log) is
+pub worked_till_end : {C W : Type 0} (link : C → LinkView) (worker : Worker W) (x y z : WireView) (b c : Lent) (r s : Seats) (table : Table) (own : ℕ) → worker.accept_failed ≡ false → s.gate.view.seen_shut ≡ false
+    → Serving x y b c r s table own worker.entered worker.unkept → AcceptStep link y z accept.Ended → Worked (span x z b c) r s table own worker
+worked_till_end link worker x y z b c r s table own is unseen g k =
+    worked worker x y z b c r s table own AtEnd g (none_there g.visits AtEnd (unseen_none (list_any saw_shut g.visits) s.gate.view.seen_shut g.seen unseen)) (went_call y z (ListenerEnded ∷ []) k.later (k.aged ∙ g.done.doing.fresh) k.log) is
     (λ e. absurd (let bad : false ≡ true = e in cc))
 
-pub worked_till_failure : {C : Type 0} (link : C → LinkView) (x y z : WireView) (b c : Lent) (r s : Seats) (table : Table) (entered unkept : ℕ) → s.gate.view.seen_shut ≡ false
-    → Serving x y b c r s table entered unkept → AcceptStep link y z accept.Failed → Worked (span x z b c) r s table entered unkept true
-worked_till_failure link x y z b c r s table entered unkept unseen g k =
-    worked x y z b c r s table entered unkept true AtFailure g (none_there g.visits AtFailure (unseen_none (list_any saw_shut g.visits) s.gate.view.seen_shut g.seen unseen)) (went_call y z (AcceptFailed ∷ []) k.later (k.aged ∙ g.done.doing.fresh) k.log) refl
+pub worked_till_failure : {C W : Type 0} (link : C → LinkView) (worker : Worker W) (x y z : WireView) (b c : Lent) (r s : Seats) (table : Table) (own : ℕ) → worker.accept_failed ≡ true → s.gate.view.seen_shut ≡ false
+    → Serving x y b c r s table own worker.entered worker.unkept → AcceptStep link y z accept.Failed → Worked (span x z b c) r s table own worker
+worked_till_failure link worker x y z b c r s table own is unseen g k =
+    worked worker x y z b c r s table own AtFailure g (none_there g.visits AtFailure (unseen_none (list_any saw_shut g.visits) s.gate.view.seen_shut g.seen unseen)) (went_call y z (AcceptFailed ∷ []) k.later (k.aged ∙ g.done.doing.fresh) k.log) is
     (λ e. absurd (let bad : false ≡ true = e in cc))
 
-pub worked_till_gate : (x y : WireView) (b c : Lent) (r s : Seats) (table : Table) (entered unkept : ℕ) (failed : Bool) → failed ≡ false → s.gate.view.seen_shut ≡ true
-    → Serving x y b c r s table entered unkept → Worked (span x y b c) r s table entered unkept failed
-worked_till_gate x y b c r s table entered unkept failed is shut g =
-    worked x y y b c r s table entered unkept failed AtGate g g.there
+pub worked_till_gate : {W : Type 0} (worker : Worker W) (x y : WireView) (b c : Lent) (r s : Seats) (table : Table) (own : ℕ) → worker.accept_failed ≡ false → s.gate.view.seen_shut ≡ true
+    → Serving x y b c r s table own worker.entered worker.unkept → Worked (span x y b c) r s table own worker
+worked_till_gate worker x y b c r s table own is shut g =
+    worked worker x y y b c r s table own AtGate g g.there
     (went_map (went_nothing y g.done.doing.fresh) (λ a w e. (ap (λ (u : Work). u.made) e, ap (λ (u : Work). u.bill) e, ap (λ (u : Work). u.acts) e))) is (λ e. shut)
 
 pub not_failed : (failed : Bool) (P : Type 0) → failed ≡ false → failed ≡ true → P
 not_failed failed P good bad = absurd (let both : true ≡ false = sym bad ∙ good in cc)
 
-pub failed_rose : {C : Type 0} (link : C → LinkView) (x y z : WireView) (b c : Lent) (r s : Seats) (table : Table) (entered unkept : ℕ) → Serving x y b c r s table entered unkept
+pub failed_rose : {C : Type 0} (link : C → LinkView) (x y z : WireView) (b c : Lent) (r s : Seats) (table : Table) (own : ℕ) (entered unkept : ℕ) → Serving x y b c r s table own entered unkept
     → AcceptStep link y z accept.Failed → Rose x.accept_faults z.accept_faults
-failed_rose link x y z b c r s table entered unkept g k = (let l = g.done.doing.wired.later.accept_faults in let m = k.cause in omega arith)
+failed_rose link x y z b c r s table own entered unkept g k = (let l = g.done.doing.wired.later.accept_faults in let m = k.cause in omega arith)
 
 -- ---- what a worker lends
 

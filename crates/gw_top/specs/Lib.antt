@@ -1,8 +1,12 @@
+pub mod Closing
 pub mod Command
+pub mod Crew
 pub mod House
+pub mod Laws
 pub mod Lines
 pub mod Load
 pub mod Methods
 pub mod Printed
 pub mod Run
+pub mod Serving
 pub mod Status

@@ -1,17 +1,19 @@
 -- What a run's status says, and what is printed with it.
-use Rattle.std.specs.Prelude.{ℕ, ◌≡◌, ◌<◌, ◌⊎◌, vec_capacity, true, if◌then◌else◌, List, [], ◌∷◌, Some, None, String}
+use Rattle.std.specs.Prelude.{ℕ, ◌≡◌, ◌≤◌, ◌⊎◌, Bool, length, vec_capacity, if◌then◌else◌, List, [], Some, None, String}
+use Rattle.std.specs.List.{list_any}
 use Rattle.std.specs.declared.alloc.Global.{Global}
+use Rattle.gw_ctxwords.specs.Rule.{most_seats as most_ctx_seats}
+use Rattle.gw_gate.specs.Gate.{most_seats as most_gate_seats}
 use Rattle.gw_wire.specs.Causes.{Rose}
 use Rattle.gw_wire.specs.Wire.{WireView}
 use Rattle.gw_wire.specs.World.{WorldView, WorldLater, ListensNow}
-use Rattle.gw_pool.specs.declared.entry.Entry.{Entry}
 use Rattle.gw_routes.specs.declared.table.Table.{Table}
 use Rattle.gw_routes.specs.Files.{AreNumbered, HasWorkers}
-use Rattle.gw_transport.specs.Leasing.{IsRested}
 use Rattle.gw_top.specs.declared.run.Setup.{Setup}
 use Rattle.gw_top.specs.declared.run.Report.{Report}
+use Rattle.gw_top.specs.declared.run.Served.{Served}
 use Rattle.gw_top.specs.declared.worker.Worker.{Worker}
-use Rattle.gw_top.specs.House.{IsUnused}
+use Rattle.gw_top.specs.House.{ArePlaces, ctx_rooms, gate_rooms}
 use Rattle.gw_top.specs.Command.{IsServe, name_of}
 use Rattle.gw_top.specs.Lines.{usage_line, unheard_line, memory_line, accept_line}
 use Rattle.gw_top.specs.Load.{Prints, SaysTable, NoTable}
@@ -23,21 +25,24 @@ pub record IsEmpty {W : Type 0} (report : Report W) : Type 0 where
   pub journal : report.journal.items ≡ []
   pub workers : report.workers.items ≡ []
 
--- a worker says that an accept failed only where one did
-abbrev pub FailedRightly : {W : Type 0} → (W → WireView) → Worker W → Type 0
-FailedRightly wire worker = worker.accept_failed ≡ true → Rose 0 (wire worker.wire).accept_faults
+-- an accept of some worker failed
+abbrev pub any_failed : {W : Type 0} → List (Worker W) → Bool
+any_failed workers = list_any (λ worker. worker.accept_failed) workers
 
--- a run that served: it listened for the table, and its report's journal and only worker are a run over the table
+abbrev pub status_of : Bool → ℕ
+status_of failed = if failed then 8 else 0
+
+abbrev pub line_of : Bool → List ℕ
+line_of failed = if failed then accept_line else []
+
+-- a run that served: it listened for the table, and its report's journal and workers are a run over the table
 pub record Serves {W : Type 0} (wire : W → WireView) (old new : WorldView) (table : Table) (report : Report W) : Type 0 where
   pub later : WorldLater old new
   pub table_is : report.table ≡ Some table
   pub listened : ListensNow new.listened table.listen table.workers
-  pub worker : Worker W
-  pub only : report.workers.items ≡ worker ∷ []
-  pub rightly : FailedRightly wire worker
-  pub status : report.status ≡ (if worker.accept_failed then 8 else 0)
-  pub printed : Prints old new (if worker.accept_failed then accept_line else [])
-  pub run : Run wire old.groups table report.journal.items worker
+  pub status : report.status ≡ status_of (any_failed report.workers.items)
+  pub printed : Prints old new (line_of (any_failed report.workers.items))
+  pub run : Run wire old.groups table report.journal.items report.workers.items
 
 -- a run that stops before it serves, with this status and this line
 pub record Refuses {W : Type 0} (old new : WorldView) (status : ℕ) (line : List ℕ) (report : Report W) : Type 0 where
@@ -50,15 +55,15 @@ pub record Refuses {W : Type 0} (old new : WorldView) (status : ℕ) (line : Lis
 abbrev pub RefusesOr7 : {W : Type 0} → WorldView → WorldView → ℕ → List ℕ → Report W → Type 0
 RefusesOr7 old new status line report = Refuses old new status line report ⊎ Refuses old new 7 memory_line report
 
--- what the end of a worker is reported as
-pub record Finished {W : Type 0} (old new : WorldView) (table : Table) (journal : List Entry) (worker : Worker W) (report : Report W) : Type 0 where
+-- what workers that served are reported as
+pub record Finished {W : Type 0} (old new : WorldView) (table : Table) (served : Served W) (report : Report W) : Type 0 where
   pub later : WorldLater old new
   pub listened : new.listened ≡ old.listened
   pub table_is : report.table ≡ Some table
-  pub journal_is : report.journal.items ≡ journal
-  pub only : report.workers.items ≡ worker ∷ []
-  pub status : report.status ≡ (if worker.accept_failed then 8 else 0)
-  pub printed : Prints old new (if worker.accept_failed then accept_line else [])
+  pub journal : report.journal ≡ served.journal
+  pub workers : report.workers ≡ served.workers
+  pub status : report.status ≡ status_of (any_failed served.workers.items)
+  pub printed : Prints old new (line_of (any_failed served.workers.items))
 
 -- how a run over a table ends: it served, or it could not listen, or memory was wanting
 abbrev pub Ends : {W : Type 0} → (W → WireView) → WorldView → WorldView → Table → Report W → Type 0
@@ -84,11 +89,9 @@ Ran wire old new words report =
 pub record IsReady {C W : Type 0} (setup : Setup W C) : Type 0 where
   pub numbered : AreNumbered setup.table
   pub workers : HasWorkers setup.table
-  pub limits : setup.pool.limits ≡ setup.table.limits
-  pub rested : IsRested setup.pool
-  pub seen : setup.pool.seen ≡ []
-  pub mine : setup.pool.mine ≡ []
-  pub number : setup.pool.number ≡ 0
-  pub house : IsUnused setup.house
-  pub nobody : setup.workers.items ≡ []
-  pub place : 0 < vec_capacity setup.workers
+  pub places : ArePlaces setup.house setup.table.limits 0 setup.places.items
+  pub count : length setup.places.items ≡ setup.table.workers
+  pub gates : gate_rooms setup.places.items ≡ most_gate_seats
+  pub words : ctx_rooms setup.places.items ≡ most_ctx_seats
+  pub nobody : (setup.jobs.items ≡ []) × (setup.workers.items ≡ [])
+  pub room : (setup.table.workers ≤ vec_capacity setup.jobs) × (setup.table.workers ≤ vec_capacity setup.workers)

@@ -1,100 +1,98 @@
-//! What a worker's sessions share: the gate, the contexts and the buffers, made once and closed behind the worker.
+//! What the workers of a run share, and the place at which each of them works.
 
-ghost use Rattle.std.specs.Prelude.{◌≡◌, false, true, IfOk};
-ghost use Rattle.gw_account.specs.Did.{span};
-ghost use Rattle.gw_transport.specs.Leasing.{IsRested};
-ghost use Rattle.gw_wire.specs.Causes.{Rose};
-ghost use Rattle.gw_session.specs.Routing.{IsServable};
-ghost use Rattle.gw_top.specs.Run.{WorkedAlone};
-ghost use Rattle.gw_top.specs.House.{IsUnused};
+ghost use Rattle.std.specs.Prelude.{◌≡◌, ◌<◌, ◌≤◌, IfOk, length};
+ghost use Rattle.gw_ctxwords.specs.Rule.{first_view as first_ctx_view, most_seats as most_ctx_seats};
+ghost use Rattle.gw_gate.specs.Gate.{first_view as first_gate_view, most_seats as most_gate_seats};
+ghost use Rattle.gw_routes.specs.Files.{HasWorkers};
+ghost use Rattle.gw_turn.specs.Pass.{fresh_passes};
+ghost use Rattle.gw_top.specs.House.{ArePlaces, ctx_rooms, gate_rooms};
 
-use crate::worker::{Worker, work};
 use gw_ctxwords::{CtxSeat, CtxTable, NodeSpec};
 use gw_gate::{Gate, GateSeat};
-use gw_pool::Leases;
+use gw_pool::Limits;
 use gw_routes::Table;
-use gw_session::Shared;
 use gw_transport::Buffers;
-use gw_wire::Wire;
+use gw_turn::{Pass, Pool};
+use gw_wire::Link;
 use std::alloc::{AllocError, Global};
-use std::sync::Wait;
 
-// The base, and below it the node of the only worker.
-const NODES: [NodeSpec; 2] = [
-    NodeSpec {
-        parent: 0,
-        tied: false,
-    },
-    NodeSpec {
-        parent: 0,
-        tied: true,
-    },
-];
-
-/// The gate, the contexts and the buffers of a run with one worker.
+/// The pool, the gate and the contexts of a run.
 #[derive(Drop)]
-pub(crate) struct House {
+pub(crate) struct House<C: Link> {
+    pub(crate) pool: Pool<C>,
     pub(crate) gate: Gate,
-    pub(crate) gate_seat: GateSeat,
     pub(crate) ctx: CtxTable,
+}
+
+/// The place of a worker: its pass of the pool, its seats at the gate and at the contexts, and its buffers.
+#[derive(Drop)]
+pub(crate) struct Place {
+    pub(crate) pass: Pass,
+    pub(crate) gate_seat: GateSeat,
     pub(crate) ctx_seat: CtxSeat,
     pub(crate) buffers: Buffers,
 }
 
-/// A house that nobody has used.
-pub(crate) fn build(alloc: Global) -> Result<House, AllocError>
-    ensures { IfOk result IsUnused }
+/// A house for the workers of a table, and the place of each of them.
+pub(crate) fn build<C: Link>(
+    alloc: Global,
+    table: &Table,
+) -> Result<(House<C>, Vec<Place>), AllocError>
+    requires workers { HasWorkers table.now }
+    requires units { 0 < table.now.limits.per_pass }
+    ensures places { IfOk result (λ made. ArePlaces made.0 table.now.limits 0 made.1.items) }
+    ensures count { IfOk result (λ made. length made.1.items ≡ table.now.workers) }
+    ensures gates { IfOk result (λ made. gate_rooms made.1.items ≡ most_gate_seats) }
+    ensures words { IfOk result (λ made. ctx_rooms made.1.items ≡ most_ctx_seats) }
 {
+    let (pool, passes) = Pool::open(alloc, table.limits)?;
     let (gate, gate_seat) = Gate::new(alloc)?;
-    let (ctx, ctx_seat) = CtxTable::new(alloc, &NODES)?;
-    Ok(House {
-        gate,
-        gate_seat,
-        ctx,
-        ctx_seat,
-        buffers: Buffers::new(alloc)?,
-    })
+    // A node for each seat, tied to the base.
+    let nodes = vec![in alloc; NodeSpec {
+        parent: 0,
+        tied: true
+    }; 65]?;
+    let (ctx, ctx_seat) = CtxTable::new(alloc, nodes.as_slice())?;
+    let house = House { pool, gate, ctx };
+    let places = place_all(alloc, &house, table.limits, passes, gate_seat, ctx_seat)?;
+    Ok((house, places))
 }
 
-/// The work of the only worker, behind which the gate and the contexts are closed.
-pub(crate) fn work_alone<R: Wait, W: Wire, L: Leases<W::Conn>>(
-    rt: &R,
+/// The place of each worker: the passes in their order, each with a seat of its own at the gate and at the contexts. The
+/// last one gets the seats themselves.
+fn place_all<C: Link>(
     alloc: Global,
-    worker: &mut Worker<W>,
-    leases: &mut L,
-    house: House,
-    table: &Table,
-)
-    requires fresh { (W.wire worker.old.wire).aged ≡ false }
-    requires rested { IsRested (L.lent leases.old) }
-    requires servable { IsServable table.now (L.lent leases.old) }
-    requires unused { IsUnused house }
-    requires serving { worker.old.accept_failed ≡ false }
-    requires nobody { worker.old.entered ≡ 0 }
-    requires kept { worker.old.unkept ≡ 0 }
-    ensures worked { WorkedAlone (span (W.wire worker.old.wire) (W.wire worker.new.wire) (L.lent leases.old) (L.lent leases.new)) table.now
-        worker.new.entered worker.new.unkept worker.new.accept_failed }
-    ensures number { worker.new.number ≡ worker.old.number }
-    ensures failed { worker.new.accept_failed ≡ true → Rose (W.wire worker.old.wire).accept_faults (W.wire worker.new.wire).accept_faults }
-    ensures leases { L.keeper leases.new ≡ L.keeper leases.old }
+    house: &House<C>,
+    limits: Limits,
+    mut passes: Vec<Pass>,
+    mut gate_seat: GateSeat,
+    mut ctx_seat: CtxSeat,
+) -> Result<Vec<Place>, AllocError>
+    requires count { (0 < limits.passes) × (limits.passes ≤ 64) }
+    requires passes { passes.items ≡ fresh_passes house.now.pool limits 0 limits.passes }
+    requires gate { (gate_seat.name.gate ≡ house.now.gate) × (gate_seat.view ≡ first_gate_view) }
+    requires words { (ctx_seat.table ≡ house.now.ctx.id) × (ctx_seat.view ≡ first_ctx_view) }
+    requires nodes { limits.passes < length house.now.ctx.nodes }
+    ensures places { IfOk result (λ places. ArePlaces house.now limits 0 places.items) }
+    ensures count { IfOk result (λ places. length places.items ≡ limits.passes) }
+    ensures gates { IfOk result (λ places. gate_rooms places.items ≡ most_gate_seats) }
+    ensures words { IfOk result (λ places. ctx_rooms places.items ≡ most_ctx_seats) }
 {
-    let House {
-        gate,
-        mut gate_seat,
-        ctx,
-        mut ctx_seat,
-        mut buffers,
-    } = house;
-    let mut shared = Shared {
-        gate: &gate,
-        gate_seat: &mut gate_seat,
-        ctx: &ctx,
-        ctx_seat: &mut ctx_seat,
-        ctx_node: 1,
-        shut_at: None,
-        buffers: &mut buffers,
-    };
-    work(rt, alloc, worker, leases, &mut shared, table);
-    let _cause = ctx.close(ctx_seat);
-    let _shut = gate.close(gate_seat);
+    let mut places = Vec::with_capacity(alloc, limits.passes as usize)?;
+    let others = limits.passes - 1;
+    for number in 0..others {
+        places.push_reserved(Place {
+            pass: passes.remove(0),
+            gate_seat: house.gate.split(alloc, &mut gate_seat)?,
+            ctx_seat: house.ctx.split(alloc, &mut ctx_seat)?,
+            buffers: Buffers::new(alloc)?,
+        });
+    }
+    places.push_reserved(Place {
+        pass: passes.remove(0),
+        gate_seat,
+        ctx_seat,
+        buffers: Buffers::new(alloc)?,
+    });
+    Ok(places)
 }

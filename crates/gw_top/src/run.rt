@@ -1,18 +1,26 @@
 // The top call of `gateway serve ROUTES`.
 
-ghost use Rattle.std.specs.Prelude.{◌≡◌, ◌<◌, [], ◌∷◌, Some, None, map, IfOk, length, vec_capacity};
+ghost use Rattle.std.specs.Prelude.{◌≡◌, ◌≤◌, ◌<◌, [], Some, None, map, IfOk, length, vec_capacity};
+ghost use Rattle.gw_ctxwords.specs.Rule.{most_seats as most_ctx_seats};
+ghost use Rattle.gw_gate.specs.Gate.{most_seats as most_gate_seats};
 ghost use Rattle.gw_wire.specs.declared.values.Act.TheVariants.{Closed as ClosedAct};
 ghost use Rattle.gw_wire.specs.Stretch.{Told, Acts};
 ghost use Rattle.gw_wire.specs.Wire.{Later};
 ghost use Rattle.gw_routes.specs.Files.{AreNumbered, HasWorkers};
+ghost use Rattle.gw_top.specs.Crew.{AreJobs, places_of, workers_of};
+ghost use Rattle.gw_top.specs.House.{ctx_rooms, gate_rooms};
 ghost use Rattle.gw_top.specs.Lines.{unheard_line};
-ghost use Rattle.gw_top.specs.Status.{Ran, Ends, Refuses, RefusesOr7, Finished, IsReady};
+ghost use Rattle.gw_top.specs.Serving.{ClosesIdle, IsServed};
+ghost use Rattle.gw_top.specs.Status.{Ran, Ends, Refuses, RefusesOr7, Finished, IsReady, any_failed};
 
+use crate::closing::{Left, close_house};
 use crate::command::{USAGE, serve_name};
-use crate::house::{House, build, work_alone};
+use crate::crew::{Job, run_all};
+use crate::house::{House, Place, build};
 use crate::load::load_table;
+use crate::setup::make_jobs;
 use crate::worker::Worker;
-use gw_pool::{Closed, Entry, Solo};
+use gw_pool::Entry;
 use gw_routes::Table;
 use gw_wire::{Addr, Listening, Wire, World};
 use std::alloc::{AllocError, Global};
@@ -34,11 +42,18 @@ pub struct Report<W> {
     pub workers: Vec<Worker<W>>,
 }
 
-// All that a run needs, made before it listens.
+/// What workers that served leave: the pool's journal, and themselves.
+pub(crate) struct Served<W> {
+    pub(crate) journal: Vec<Entry>,
+    pub(crate) workers: Vec<Worker<W>>,
+}
+
+// All that a run needs, made before it listens: a place for each worker, and room for the workers.
 struct Setup<W: Wire> {
     table: Table,
-    pool: Solo<W::Conn>,
-    house: House,
+    house: House<W::Conn>,
+    places: Vec<Place>,
+    jobs: Vec<Job<W>>,
     workers: Vec<Worker<W>>,
 }
 
@@ -72,18 +87,19 @@ fn prepare<W: Wire>(alloc: Global, table: Table) -> Result<Setup<W>, AllocError>
     ensures ready { IfOk result (λ setup. IsReady setup) }
     ensures serves { IfOk result (λ setup. setup.table ≡ table) }
 {
-    let house = build(alloc)?;
-    let pool = Solo::open(alloc, table.limits)?;
+    let (house, places) = build(alloc, &table)?;
+    let count = places.len();
     Ok(Setup {
         table,
-        pool,
         house,
-        workers: Vec::with_capacity(alloc, 1)?,
+        places,
+        jobs: Vec::with_capacity(alloc, count)?,
+        workers: Vec::with_capacity(alloc, count)?,
     })
 }
 
-/// Listens, and serves until the worker ends.
-fn listen_and_serve<R: Wait, H: World>(
+/// Listens, and serves until all workers ended.
+fn listen_and_serve<R: Threads + Wait + Sync, H: World>(
     rt: &R,
     alloc: Global,
     world: &mut H,
@@ -94,28 +110,63 @@ fn listen_and_serve<R: Wait, H: World>(
 {
     let Setup {
         table,
-        mut pool,
         house,
+        places,
+        jobs,
         workers,
     } = setup;
-    let wire = match world.listen(&table.listen, table.workers) {
-        Listening::Wires(wires) => first(wires),
+    let wires = match world.listen(&table.listen, table.workers) {
+        Listening::Wires(wires) => wires,
         Listening::Failed => return cannot_listen(alloc, world, &table.listen),
         Listening::NoMemory => return refuse(alloc, world, 7, b"out of memory\n"),
     };
-    let mut worker = Worker {
-        number: 0,
-        wire,
-        entered: 0,
-        unkept: 0,
-        accept_failed: false,
-    };
-    work_alone(rt, alloc, &mut worker, &mut pool, house, &table);
-    let Ok(Closed { journal, idle }) = pool.close() else {
-        return refuse(alloc, world, 7, b"out of memory\n");
-    };
-    close_all(&mut worker.wire, idle);
-    finish(world, table, journal, workers, worker)
+    let jobs = make_jobs(places, wires, jobs);
+    match serve_all(rt, alloc, house, &table, jobs, workers) {
+        Ok(served) => finish(world, table, served),
+        Err(AllocError) => refuse(alloc, world, 7, b"out of memory\n"),
+    }
+}
+
+/// All workers serve clients until each of them ended. Then the house is closed, and worker 0 closes the connections that
+/// are still idle.
+fn serve_all<R: Threads + Wait + Sync, W: Wire + Send>(
+    rt: &R,
+    alloc: Global,
+    house: House<W::Conn>,
+    table: &Table,
+    jobs: Vec<Job<W>>,
+    workers: Vec<Worker<W>>,
+) -> Result<Served<W>, AllocError>
+    requires jobs { AreJobs W.wire house table.now 0 jobs.items }
+    requires numbered { AreNumbered table.now }
+    requires count { (length jobs.items ≡ table.now.limits.passes) × (0 < length jobs.items) }
+    requires gates { gate_rooms (places_of jobs.items) ≡ most_gate_seats }
+    requires words { ctx_rooms (places_of jobs.items) ≡ most_ctx_seats }
+    requires nobody { workers.items ≡ [] }
+    requires room { length jobs.items ≤ vec_capacity workers }
+    ensures { IfOk result (λ served. IsServed W.wire table.now (workers_of jobs.items) served) }
+{
+    let mut jobs = jobs;
+    run_all(rt, alloc, &house, table, jobs.as_mut_slice());
+    let Left {
+        journal,
+        idle,
+        workers,
+    } = close_house(house, table, jobs, workers)?;
+    Ok(Served {
+        journal,
+        workers: close_idle(workers, idle),
+    })
+}
+
+/// Worker 0 closes the connections that are still idle.
+fn close_idle<W: Wire>(workers: Vec<Worker<W>>, idle: Vec<W::Conn>) -> Vec<Worker<W>>
+    requires { 0 < length workers.items }
+    ensures { ClosesIdle W.wire W.Conn.link workers.items idle.items result.items }
+{
+    let mut workers = workers;
+    close_all(&mut workers[0].wire, idle);
+    workers
 }
 
 /// Closes the connections that are still idle, the least recently idle first.
@@ -129,41 +180,24 @@ fn close_all<W: Wire>(wire: &mut W, idle: Vec<W::Conn>)
 }
 
 /// The report of a run that served; it says where an accept failed.
-fn finish<H: World>(
-    world: &mut H,
-    table: Table,
-    journal: Vec<Entry>,
-    workers: Vec<Worker<H::Wire>>,
-    worker: Worker<H::Wire>,
-) -> Report<H::Wire>
-    requires nobody { workers.items ≡ [] }
-    requires place { 0 < vec_capacity workers }
-    ensures { Finished (H.world world.old) (H.world world.new) table journal.items worker result }
+fn finish<H: World>(world: &mut H, table: Table, served: Served<H::Wire>) -> Report<H::Wire>
+    ensures { Finished (H.world world.old) (H.world world.new) table served result }
 {
-    if worker.accept_failed {
+    if any_failed(served.workers.as_slice()) {
         let _ = world.print(b"accept failed\n");
-        return report_on(8, table, journal, workers, worker);
+        return report_on(8, table, served);
     }
-    report_on(0, table, journal, workers, worker)
+    report_on(0, table, served)
 }
 
-/// The report on one worker.
-fn report_on<W>(
-    status: u8,
-    table: Table,
-    journal: Vec<Entry>,
-    workers: Vec<Worker<W>>,
-    worker: Worker<W>,
-) -> Report<W>
-    requires nobody { workers.items ≡ [] }
-    requires place { 0 < vec_capacity workers }
+/// The report on workers that served.
+fn report_on<W>(status: u8, table: Table, served: Served<W>) -> Report<W>
     ensures status { result.status ≡ status }
     ensures table { result.table ≡ Some table }
-    ensures journal { result.journal.items ≡ journal.items }
-    ensures workers { result.workers.items ≡ worker ∷ [] }
+    ensures journal { result.journal ≡ served.journal }
+    ensures workers { result.workers ≡ served.workers }
 {
-    let mut workers = workers;
-    workers.push(worker).unwrap();
+    let Served { journal, workers } = served;
     Report {
         status,
         table: Some(table),
@@ -172,16 +206,11 @@ fn report_on<W>(
     }
 }
 
-/// The wire of the only worker.
-fn first<W: Wire>(wires: Vec<W>) -> W
-    requires { length wires.items ≡ 1 }
-    ensures { wires.items ≡ result ∷ [] }
+/// Whether an accept of some worker failed.
+fn any_failed<W>(workers: &[Worker<W>]) -> bool
+    ensures { result ≡ any_failed workers.now }
 {
-    let mut wires = wires;
-    match wires.pop() {
-        Some(wire) => wire,
-        None => unreachable!(),
-    }
+    workers.iter().any(|worker| worker.accept_failed)
 }
 
 /// The report of a run whose route file gave no table.

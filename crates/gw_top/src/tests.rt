@@ -10,6 +10,7 @@ mod replies;
 mod reuse;
 mod runs;
 mod stops;
+mod workers;
 
 use super::*;
 use gw_pool::{Call, Entry, Offer, Reply};

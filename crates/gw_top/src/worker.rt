@@ -7,7 +7,7 @@ ghost use Rattle.gw_transport.specs.Leasing.{IsRested};
 ghost use Rattle.gw_wire.specs.Causes.{Rose};
 ghost use Rattle.gw_session.specs.Routing.{IsServable};
 ghost use Rattle.gw_session.specs.Seats.{IsSameShared, seats_of};
-ghost use Rattle.gw_top.specs.Run.{Worked, own_node, unkept};
+ghost use Rattle.gw_top.specs.Run.{Worked, unkept};
 
 use gw_pool::Leases;
 use gw_routes::Table;
@@ -44,13 +44,12 @@ pub fn work<R: Wait, W: Wire, L: Leases<W::Conn>>(
     requires rested { IsRested (L.lent leases.old) }
     requires servable { IsServable table.now (L.lent leases.old) }
     requires outside { shared.old.gate_seat.now.view.held ≡ false }
-    requires node { shared.old.ctx_node ≡ own_node }
     requires room { shared.old.buffers.now.out.size ≡ out_size }
     requires serving { worker.old.accept_failed ≡ false }
     requires nobody { worker.old.entered ≡ 0 }
     requires kept { worker.old.unkept ≡ 0 }
     ensures worked { Worked (span (W.wire worker.old.wire) (W.wire worker.new.wire) (L.lent leases.old) (L.lent leases.new)) (seats_of shared.old) (seats_of shared.new) table.now
-        worker.new.entered worker.new.unkept worker.new.accept_failed }
+        shared.old.ctx_node worker.new }
     ensures number { worker.new.number ≡ worker.old.number }
     ensures failed { worker.new.accept_failed ≡ true → Rose (W.wire worker.old.wire).accept_faults (W.wire worker.new.wire).accept_faults }
     ensures same { IsSameShared shared.old shared.new }

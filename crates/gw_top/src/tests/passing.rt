@@ -225,7 +225,7 @@ fn pipeline(rt: HostRuntime) -> Result<(), Fail> {
 fn base_before_path(rt: HostRuntime) -> Result<(), Fail> {
     let alloc = rt.alloc();
     let file =
-        "{\"listen\":\"127.0.0.1:8080\",\"routes\":[{\"pattern\":\"/\",\"backend\":\"http://127.0.0.1:9000/api/\"}]}";
+        "{\"listen\":\"127.0.0.1:8080\",\"workers\":1,\"routes\":[{\"pattern\":\"/\",\"backend\":\"http://127.0.0.1:9000/api/\"}]}";
     let (_, backend) = traded(
         &rt,
         alloc,
@@ -282,7 +282,7 @@ fn wanted(report: &Report<MemWire>) -> u32 {
 fn hosts_and_backends(rt: HostRuntime) -> Result<(), Fail> {
     let alloc = rt.alloc();
     let file =
-        b"{\"listen\":\"127.0.0.1:8080\",\"routes\":[{\"pattern\":\"/\",\"backend\":\"http://127.0.0.1:9000\"},{\"pattern\":\"b.example/\",\"backend\":\"http://127.0.0.1:9001\"}]}";
+        b"{\"listen\":\"127.0.0.1:8080\",\"workers\":1,\"routes\":[{\"pattern\":\"/\",\"backend\":\"http://127.0.0.1:9000\"},{\"pattern\":\"b.example/\",\"backend\":\"http://127.0.0.1:9001\"}]}";
     assert_eq!(rt; passed_to(&rt, alloc, file, "a.example")?, (0, 0, 9_000, 0));
     assert_eq!(rt;
         passed_to(&rt, alloc, file, "b.example:80")?,

@@ -299,7 +299,7 @@ fn wants_the_second(entry: &Entry) -> bool {
 }
 
 const SHORT_IDLE: &[u8] =
-    b"{\"listen\":\"127.0.0.1:8080\",\"idle_ms\":1000,\"routes\":[{\"pattern\":\"/a\",\"backend\":\"http://127.0.0.1:9000\"},{\"pattern\":\"/b\",\"backend\":\"http://127.0.0.1:9001\"}]}";
+    b"{\"listen\":\"127.0.0.1:8080\",\"workers\":1,\"idle_ms\":1000,\"routes\":[{\"pattern\":\"/a\",\"backend\":\"http://127.0.0.1:9000\"},{\"pattern\":\"/b\",\"backend\":\"http://127.0.0.1:9001\"}]}";
 
 /// A connection that was idle too long is closed before the next exchange, whatever its host.
 #[test]

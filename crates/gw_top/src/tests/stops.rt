@@ -12,7 +12,7 @@ use std::alloc::{AllocError, Global};
 use std::test::Fail;
 
 const STOP_FILE: &[u8] =
-    b"{\"listen\":\"127.0.0.1:8080\",\"routes\":[{\"pattern\":\"/stop\",\"stop\":true},{\"pattern\":\"/\",\"backend\":\"http://127.0.0.1:9000\"}]}";
+    b"{\"listen\":\"127.0.0.1:8080\",\"workers\":1,\"routes\":[{\"pattern\":\"/stop\",\"stop\":true},{\"pattern\":\"/\",\"backend\":\"http://127.0.0.1:9000\"}]}";
 
 // A wire with one client that stops the gateway and asks for more, and another one behind it.
 fn stopping_wire(alloc: Global) -> Result<MemWire, AllocError>

@@ -1,7 +1,6 @@
-use Rattle.std.proofs.Common.{inl, inr, ap, arith}
-use Rattle.gw_pool.specs.declared.limits.Limits.{Limits}
-use Rattle.gw_top.proofs.RunLemmas.{given_first}
-use Rattle.gw_top.proofs.TopLemmas.{served, unheard_ends, refuses_behind, closes_of}
+use Rattle.std.proofs.Common.{length, inl, inr, ap, arith, sym, ◌∙◌}
+use Rattle.gw_top.proofs.CrewLemmas.{are_jobs, count_workers, given_fresh, groups_of, same_count, same_places}
+use Rattle.gw_top.proofs.TopLemmas.{served, unheard_ends, refuses_behind}
 use Rattle.gw_top.specs.Lines.{memory_line}
 use Rattle.gw_top.proofs.run.listen_and_serve.Goals as goal
 
@@ -12,22 +11,43 @@ returns-in-Failed g c =
 pub returns-in-NoMemory : goal.returns-in-NoMemory
 returns-in-NoMemory g c = inr (inr (refuses_behind _ _ _ 7 memory_line c.refuse.result c.in-NoMemory.ensures.later c.in-NoMemory.ensures.printed c.refuse.ensures))
 
-pub work_alone-requires-clause-fresh : goal.work_alone-requires-clause-fresh
-work_alone-requires-clause-fresh g c =
-    λ ks lives. (given_first _ g.H.Wire.Wire.wire c.in-Wires.wires.items c.first-wire.result c.first-wire.ensures c.in-Wires.ensures.cause.1).fresh.aged
+pub serve_all-requires-clause-jobs : goal.serve_all-requires-clause-jobs
+serve_all-requires-clause-jobs g c κs within =
+    let count = c.in-Wires.ensures.cause.0 ∙ sym c.requires.count in
+    rw c.make_jobs-jobs.ensures
+    (are_jobs g.H.Wire.Wire.wire c.args.setup.house c.args.setup.table 0 c.args.setup.places.items c.in-Wires.wires.items c.requires.places count
+    (let most = c.requires.workers.most in let all = c.requires.count in omega arith) (given_fresh _ g.H.Wire.Wire.wire c.in-Wires.wires.items c.in-Wires.ensures.cause.1))
 
-pub work_alone-requires-clause-servable : goal.work_alone-requires-clause-servable
-work_alone-requires-clause-servable g c =
-    λ ks lives. record { numbered = c.requires.numbered; hosts = (let pooled = c.requires.numbered.pooled in let limits = ap (λ (l : Limits). l.hosts) c.requires.limits in omega arith) }
+pub serve_all-requires-clause-count : goal.serve_all-requires-clause-count
+serve_all-requires-clause-count g c κs within =
+    let count = c.in-Wires.ensures.cause.0 ∙ sym c.requires.count in
+    let jobs = ap (λ l. length l) c.make_jobs-jobs.ensures ∙ same_count 0 c.args.setup.places.items c.in-Wires.wires.items count in
+    (jobs ∙ c.requires.count ∙ sym c.requires.workers.passes, (let least = c.requires.workers.least in let all = c.requires.count in omega arith))
 
-pub returns-in_default : goal.returns-in_default
-returns-in_default g c = inr (inr (refuses_behind _ _ _ 7 memory_line c.refuse-in_default.result c.in-Wires.ensures.later c.in-Wires.ensures.printed c.refuse-in_default.ensures))
+pub serve_all-requires-clause-gates : goal.serve_all-requires-clause-gates
+serve_all-requires-clause-gates g c κs within =
+    let count = c.in-Wires.ensures.cause.0 ∙ sym c.requires.count in
+    rw (c.make_jobs-jobs.ensures, same_places 0 c.args.setup.places.items c.in-Wires.wires.items count) c.requires.gates
 
-pub returns : goal.returns
-returns g c =
-    let given = given_first _ g.H.Wire.Wire.wire c.in-Wires.wires.items c.first-wire.result c.first-wire.ensures c.in-Wires.ensures.cause.1 in
-    let link = g.H.Wire.Conn.Link.link in
-    inl (served g.H.Wire.Wire.wire _ _ _ c.args.setup.table _ _ c.args.setup.pool _ _ _ _ c.finish.result c.requires.limits c.requires.seen c.requires.mine c.requires.number
-    c.in-Wires.ensures.later c.in-Wires.ensures.printed c.in-Wires.ensures.cause.2 given c.work_alone.ensures.worked c.work_alone.ensures.failed c.work_alone.ensures.number
-    c.in-Ok.ensures.journal c.in-Ok.ensures.mine c.in-Ok.ensures.legal c.in-Ok.ensures.callers c.close_all.ensures.later c.close_all.ensures.log
-    (closes_of (λ x. (link x).number) c.in-Ok.field-0.idle.items _ c.in-Ok.ensures.idle) c.finish.ensures)
+pub serve_all-requires-clause-words : goal.serve_all-requires-clause-words
+serve_all-requires-clause-words g c κs within =
+    let count = c.in-Wires.ensures.cause.0 ∙ sym c.requires.count in
+    rw (c.make_jobs-jobs.ensures, same_places 0 c.args.setup.places.items c.in-Wires.wires.items count) c.requires.words
+
+pub serve_all-requires-clause-room : goal.serve_all-requires-clause-room
+serve_all-requires-clause-room g c κs within =
+    let count = c.in-Wires.ensures.cause.0 ∙ sym c.requires.count in
+    let jobs = ap (λ l. length l) c.make_jobs-jobs.ensures ∙ same_count 0 c.args.setup.places.items c.in-Wires.wires.items count in
+    (let all = c.requires.count in let room = c.requires.room.1 in omega arith)
+
+pub returns-in-Ok : goal.returns-in-Ok
+returns-in-Ok g c =
+    let count = c.in-Wires.ensures.cause.0 ∙ sym c.requires.count in
+    let jobs = ap (λ l. length l) c.make_jobs-jobs.ensures ∙ same_count 0 c.args.setup.places.items c.in-Wires.wires.items count in
+    inl (served g.H.Wire.Wire.wire _ _ _ c.args.setup.table _ c.in-Ok.served c.finish.result c.in-Wires.ensures.later c.in-Wires.ensures.printed c.in-Wires.ensures.cause.2
+    (count_workers c.make_jobs-jobs.result.items ∙ jobs ∙ c.requires.count)
+    (groups_of _ g.H.Wire.Wire.wire c.args.setup.places.items c.in-Wires.wires.items c.make_jobs-jobs.result.items c.make_jobs-jobs.ensures c.in-Wires.ensures.cause.1)
+    c.in-Ok.ensures c.finish.ensures)
+
+pub returns-in-Err : goal.returns-in-Err
+returns-in-Err g c = inr (inr (refuses_behind _ _ _ 7 memory_line c.refuse-in-Err.result c.in-Wires.ensures.later c.in-Wires.ensures.printed c.refuse-in-Err.ensures))

@@ -4,13 +4,13 @@ use Rattle.gw_top.proofs.worker.work.Goals as goal
 
 pub loop-client-init : goal.loop-client-init
 loop-client-init g c =
-    (serving_first _ _ _ c.args.table.now _ _ c.requires.fresh c.requires.rested c.requires.nobody c.requires.kept, c.requires.serving, refl, same_shared c.args.shared.now, refl, refl)
+    (serving_first _ _ _ c.args.table.now _ _ _ c.requires.fresh c.requires.rested c.requires.nobody c.requires.kept, c.requires.serving, refl, same_shared c.args.shared.now, refl, refl)
 
 pub loop-client-preserved : goal.loop-client-preserved
 loop-client-preserved g c =
     let i = c.loop-client.invariant in (
-      serving_on g.W.Conn.Link.link _ _ _ _ _ _ _ c.args.table.now _ _
-          (serving_looked _ _ _ _ _ _ _ _ c.args.table.now _ _ _ _ i.0 c.now-now.ensures c.look_shut.ensures.step) c.in-Tick.ensures,
+      serving_on g.W.Conn.Link.link _ _ _ _ _ _ _ c.args.table.now _ _ _
+          (serving_looked _ _ _ _ _ _ _ _ c.args.table.now _ _ _ _ _ i.0 c.now-now.ensures c.look_shut.ensures.step) c.in-Tick.ensures,
       i.1,
       i.2,
       same_then _ _ _ i.3 c.look_shut.ensures.same,
@@ -21,10 +21,10 @@ loop-client-preserved g c =
 pub loop-client-preserved-in-Conn : goal.loop-client-preserved-in-Conn
 loop-client-preserved-in-Conn g c =
     let i = c.loop-client.invariant in
-    let looked = serving_looked _ _ _ _ _ _ _ _ c.args.table.now _ _ _ _ i.0 c.now-now.ensures c.look_shut.ensures.step in
+    let looked = serving_looked _ _ _ _ _ _ _ _ c.args.table.now _ _ _ _ _ i.0 c.now-now.ensures c.look_shut.ensures.step in
     let served = c.serve_connection-served.ensures in (
-      serving_more g.W.Conn.Link.link _ _ _ _ _ _ _ _ _ _ c.args.table.now _ _ _ _ _ c.in-Conn.client c.in-Conn.peer c.serve_connection-served.result c.from.result c.unkept.result
-          (c.look_shut.ensures.same.ctx_node ∙ i.3.ctx_node ∙ c.requires.node) (c.look_shut.ensures.step.seen ∙ c.if-look_shut.false) looked c.in-Conn.ensures served.step
+      serving_more g.W.Conn.Link.link _ _ _ _ _ _ _ _ _ _ c.args.table.now _ _ _ _ _ _ c.in-Conn.client c.in-Conn.peer c.serve_connection-served.result c.from.result c.unkept.result
+          (c.look_shut.ensures.same.ctx_node ∙ i.3.ctx_node) (c.look_shut.ensures.step.seen ∙ c.if-look_shut.false) looked c.in-Conn.ensures served.step
           c.from.ensures c.unkept.ensures c.saturating_add-worker.ensures c.saturating_add-worker-in-Conn.ensures,
       i.1,
       i.2,
@@ -36,20 +36,20 @@ loop-client-preserved-in-Conn g c =
 pub returns-then-look_shut-clause-worked : goal.returns-then-look_shut-clause-worked
 returns-then-look_shut-clause-worked g c =
     let i = c.loop-client.invariant in
-    worked_till_gate _ _ _ _ _ _ c.args.table.now _ _ _ i.1 (c.look_shut.ensures.step.seen ∙ c.if-look_shut.true)
-    (serving_looked _ _ _ _ _ _ _ _ c.args.table.now _ _ _ _ i.0 c.now-now.ensures c.look_shut.ensures.step)
+    worked_till_gate _ _ _ _ _ _ _ c.args.table.now _ i.1 (c.look_shut.ensures.step.seen ∙ c.if-look_shut.true)
+    (serving_looked _ _ _ _ _ _ _ _ c.args.table.now _ _ _ _ _ i.0 c.now-now.ensures c.look_shut.ensures.step)
 
 pub returns-in-Ended-clause-worked : goal.returns-in-Ended-clause-worked
 returns-in-Ended-clause-worked g c =
     let i = c.loop-client.invariant in
-    worked_till_end g.W.Conn.Link.link _ _ _ _ _ _ _ c.args.table.now _ _ _ i.1 (c.look_shut.ensures.step.seen ∙ c.if-look_shut.false)
-    (serving_looked _ _ _ _ _ _ _ _ c.args.table.now _ _ _ _ i.0 c.now-now.ensures c.look_shut.ensures.step) c.in-Ended.ensures
+    worked_till_end g.W.Conn.Link.link _ _ _ _ _ _ _ _ c.args.table.now _ i.1 (c.look_shut.ensures.step.seen ∙ c.if-look_shut.false)
+    (serving_looked _ _ _ _ _ _ _ _ c.args.table.now _ _ _ _ _ i.0 c.now-now.ensures c.look_shut.ensures.step) c.in-Ended.ensures
 
 pub returns-in-Failed-clause-worked : goal.returns-in-Failed-clause-worked
 returns-in-Failed-clause-worked g c =
     let i = c.loop-client.invariant in
-    worked_till_failure g.W.Conn.Link.link _ _ _ _ _ _ _ c.args.table.now _ _ (c.look_shut.ensures.step.seen ∙ c.if-look_shut.false)
-    (serving_looked _ _ _ _ _ _ _ _ c.args.table.now _ _ _ _ i.0 c.now-now.ensures c.look_shut.ensures.step) c.in-Failed.ensures
+    worked_till_failure g.W.Conn.Link.link _ _ _ _ _ _ _ _ c.args.table.now _ refl (c.look_shut.ensures.step.seen ∙ c.if-look_shut.false)
+    (serving_looked _ _ _ _ _ _ _ _ c.args.table.now _ _ _ _ _ i.0 c.now-now.ensures c.look_shut.ensures.step) c.in-Failed.ensures
 
 pub returns-then-look_shut-clause-number : goal.returns-then-look_shut-clause-number
 returns-then-look_shut-clause-number g c = c.loop-client.invariant.2
@@ -93,8 +93,8 @@ returns-in-Failed-clause-number g c = c.loop-client.invariant.2
 
 pub returns-in-Failed-clause-failed : goal.returns-in-Failed-clause-failed
 returns-in-Failed-clause-failed g c = λ e.
-    failed_rose g.W.Conn.Link.link _ _ _ _ _ _ _ c.args.table.now _ _
-    (serving_looked _ _ _ _ _ _ _ _ c.args.table.now _ _ _ _ c.loop-client.invariant.0 c.now-now.ensures c.look_shut.ensures.step) c.in-Failed.ensures
+    failed_rose g.W.Conn.Link.link _ _ _ _ _ _ _ c.args.table.now _ _ _
+    (serving_looked _ _ _ _ _ _ _ _ c.args.table.now _ _ _ _ _ c.loop-client.invariant.0 c.now-now.ensures c.look_shut.ensures.step) c.in-Failed.ensures
 
 pub returns-in-Failed-clause-same : goal.returns-in-Failed-clause-same
 returns-in-Failed-clause-same g c = same_then _ _ _ c.loop-client.invariant.3 c.look_shut.ensures.same
